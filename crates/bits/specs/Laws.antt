@@ -1,0 +1,2 @@
+-- What proofs of this crate and of others cite.
+pub mod Fields

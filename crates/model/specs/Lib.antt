@@ -1,0 +1,2 @@
+-- A song as a value.
+pub mod Song

@@ -1,0 +1,95 @@
+// The generator: Marsaglia's xor128, its state by value, and what is drawn from it.
+ghost use mathlib.Core.Path.{_≡_};
+ghost use Prim.Native.Nat.{_+_, _-_, _*_, _^_, _≤_, _<_};
+ghost use Rattle.random.specs.Generator.{seeded, next, low, between, unit};
+ghost use Rattle.random.specs.Play.{on, value};
+ghost use Rattle.random.specs.Answers.{drawn};
+
+// The generator state: four words.
+pub struct Random {
+    pub x: u32,
+    pub y: u32,
+    pub z: u32,
+    pub w: u32,
+}
+
+// A state, and how many draws may still be made from it.
+pub struct Draws {
+    pub random: Random,
+    pub left: u32,
+}
+
+// What a draw gives: a value below 2^31, and the draws after it.
+pub enum Drawn {
+    Value(u32, Draws),
+    Spent,
+}
+
+// The state that a seed gives.
+pub fn from_seed(seed: u32) -> Random
+    ensures { λ r. ⌜ r ≡ seeded seed ⌝ }
+{
+    Random {
+        x: seed,
+        y: 842502087,
+        z: 3579807591,
+        w: 273326509,
+    }
+}
+
+// One step of the generator: `gen_unsigned`, whose result is the last word.
+pub fn step(r: Random) -> Random
+    ensures { λ s. ⌜ s ≡ next r ⌝ }
+{
+    let t = r.x ^ (r.x << 11);
+    Random {
+        x: r.y,
+        y: r.z,
+        z: r.w,
+        w: r.w ^ (r.w >> 19) ^ t ^ (t >> 8),
+    }
+}
+
+// The value of a step: the low 31 bits of the last word that it made.
+pub fn low_bits(r: Random) -> u32
+    ensures { λ v. ⌜ v ≡ low r ⌝ }
+{
+    r.w & 0x7fff_ffff
+}
+
+// One draw: a step, where one is left.
+pub fn draw(d: Draws) -> Drawn
+    ensures { λ r. ⌜ drawn d r ≡ on value d ⌝ }
+{
+    let left = d.left;
+    if left == 0 {
+        return Drawn::Spent;
+    }
+    let random = step(d.random);
+    let v = low_bits(random);
+    Drawn::Value(
+        v,
+        Draws {
+            random,
+            left: left - 1,
+        },
+    )
+}
+
+// `next_int_range` of a value: a number from min up to, and without, max.
+pub fn next_int_range(v: u32, min: u8, max: u8) -> u8
+    requires { ⌜ (v < 2 ^ 31) × (min < max) × (max ≤ 9) ⌝ }
+    ensures { λ r. ⌜ r ≡ between min max v ⌝ }
+{
+    let scaled = (v as u64 * (max - min) as u64) >> 31;
+    min + scaled as u8
+}
+
+const INT_TO_REAL: f64 = 1.0 / 2147483648.0;
+
+// `next_double` of a value: v / 2^31, with nothing lost.
+pub fn next_double(v: u32) -> f64
+    ensures { λ r. ⌜ r ≡ unit v ⌝ }
+{
+    INT_TO_REAL * v as f64
+}

@@ -1,0 +1,1 @@
+// The language of the conversion's rules: definitions and their laws, and no code.

@@ -1,0 +1,84 @@
+//! The three entries of document 01, as types that every implementation answers with.
+
+/// How a job ends. The chart buffer holds the chart, or is all zero.
+#[derive(Clone, Copy, Debug, PartialEq, Eq)]
+pub enum JobEnd {
+    /// A chart of `length` bytes from the buffer's start; later bytes keep their values.
+    Chart { length: usize },
+    /// Refusals 1 to 8, 9, 10, 11, 12. `object` and `draws` are 0 before the walk.
+    Refused { number: u8, object: u32, draws: u32 },
+}
+
+/// The four words of the generator.
+#[derive(Clone, Copy, Debug, PartialEq, Eq)]
+pub struct State {
+    pub x: u32,
+    pub y: u32,
+    pub z: u32,
+    pub w: u32,
+}
+
+/// What an object is, with what travels inside its kind.
+#[derive(Clone, Copy, Debug, PartialEq)]
+pub enum Kind {
+    Circle,
+    /// `distance` and `node_sound` are `None` where the record has no such field.
+    Slider { repeats: u32, distance: Option<f64>, node_sound: Option<u32> },
+    Spinner { duration: f64 },
+    Hold { duration: f64 },
+}
+
+/// All that the single-object entry takes, apart from its buffer.
+/// Fields may hold anything, so that each refusal can be met.
+#[derive(Clone, Copy, Debug, PartialEq)]
+pub struct Single {
+    pub x: f32,
+    pub y: f32,
+    pub start: f64,
+    pub sound: u32,
+    pub kind: Kind,
+    // facts
+    pub difficulty: f64,
+    pub multiplier: f64,
+    pub beat_length: f64,
+    pub velocity: f64,
+    pub kiai: bool,
+    pub density: f64,
+    // previous values
+    pub prev_time: f64,
+    pub prev_x: f32,
+    pub prev_y: f32,
+    pub prev_mask: u32,
+    pub prev_last: u32,
+    /// False: stair; true: reverse stair.
+    pub reverse_stair: bool,
+    pub columns: u32,
+    pub state: State,
+    pub allowance: u32,
+}
+
+/// How a single object ends.
+#[derive(Clone, Copy, Debug, PartialEq, Eq)]
+pub enum SingleEnd {
+    /// `notes` notes of 17 bytes stand at the buffer's start; later bytes keep their values.
+    Made { notes: u32, mask: u32, last: u32, reverse_stair: bool, state: State, draws: u32 },
+    /// Nothing is written; the state is the one lent.
+    Refused { number: u8, state: State },
+}
+
+/// A note of a chart, floats as bit patterns. A circle's duration is 0.
+#[derive(Clone, Copy, Debug, PartialEq, Eq)]
+pub struct Note {
+    pub column: u8,
+    pub hold: bool,
+    pub start: u64,
+    pub duration: u64,
+}
+
+/// What the chart reader finds; `None` stands for refusal 14.
+#[derive(Clone, Debug, PartialEq, Eq)]
+pub struct Chart {
+    pub columns: u8,
+    pub draws: u32,
+    pub notes: Vec<Note>,
+}
