@@ -213,6 +213,16 @@ pub fn pattern_f32(bits: u32) -> f32
     f32::from_bits(bits)
 }
 
+// The bit pattern of a float, one of a NaN's for a NaN.
+pub fn bits_f64(x: f64) -> u64
+    ensures { λ r. ⌜ r ≡ Ieee.toBits binary64 x ⌝ }
+{
+    if x != x {
+        return 9221120237041090560;
+    }
+    f64::to_bits(x)
+}
+
 // Whether a float is finite.
 pub fn is_finite(x: f64) -> bool
     ensures { λ r. ⌜ r ≡ finite x ⌝ }

@@ -1,0 +1,20 @@
+//! Random and damaged inputs for every entry of document 01, the same for the same seed.
+
+mod charts;
+mod damage;
+mod lent;
+mod records;
+mod rng;
+mod singles;
+mod song;
+
+pub use charts::{chart, damaged_chart};
+pub use damage::damaged;
+pub use lent::{Need, lent};
+pub use records::{record, song};
+pub use rng::Rng;
+pub use singles::{damaged_single, single, state_giving};
+pub use song::{Field, Name, Object, Song, pack};
+
+#[cfg(test)]
+mod tests;

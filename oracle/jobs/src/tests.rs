@@ -1,0 +1,119 @@
+use entry::{JobEnd, SingleEnd, State};
+
+use crate::{
+    Name, Need, Rng, Song, chart, damaged, damaged_chart, damaged_single, lent, pack, record,
+    single, song, state_giving,
+};
+
+/// The first three values from a state, by the document's step.
+fn values(state: State) -> [u32; 3] {
+    let mut words = [state.x, state.y, state.z, state.w];
+
+    std::array::from_fn(|_| {
+        let t = words[0] ^ (words[0] << 11);
+        let new = words[3] ^ (words[3] >> 19) ^ t ^ (t >> 8);
+        words = [words[1], words[2], words[3], new];
+        new & 0x7fff_ffff
+    })
+}
+
+#[test]
+fn states_give_the_wanted_values() {
+    let mut rng = Rng::new(3);
+
+    for _ in 0..1000 {
+        let wanted = std::array::from_fn(|_| rng.word() as u32 & 0x7fff_ffff);
+        let tops = std::array::from_fn(|_| rng.percent(50));
+        assert_eq!(
+            values(state_giving(wanted, tops, rng.word() as u32)),
+            wanted
+        );
+    }
+}
+
+#[test]
+fn the_same_seed_gives_the_same_inputs() {
+    let all = |seed| {
+        let mut rng = Rng::new(seed);
+        (0..50)
+            .map(|_| {
+                let asks = format!("{:?} {:?}", single(&mut rng), damaged_single(&mut rng));
+                let charts = (chart(&mut rng), damaged_chart(&mut rng));
+                (
+                    record(&mut rng),
+                    damaged(&mut rng),
+                    asks,
+                    charts,
+                    lent(&mut rng, None),
+                )
+            })
+            .collect::<Vec<_>>()
+    };
+
+    assert!(all(5) == all(5));
+    assert!(all(5) != all(6));
+}
+
+#[test]
+fn a_header_takes_32_bytes() {
+    let fields = Song::default().fields();
+    assert_eq!(fields.iter().map(|field| field.width).sum::<usize>(), 256);
+    let bytes = pack(&fields);
+    assert_eq!(bytes.len(), 32);
+    assert_eq!(bytes[0], 0x10);
+    assert_eq!(fields[6].name, Name::Multiplier);
+    assert_eq!(bytes[17..25], 1.0_f64.to_be_bytes());
+}
+
+#[test]
+fn songs_are_not_refused_by_their_fields() {
+    let mut rng = Rng::new(7);
+    let mut buffer = vec![0; 1 << 21];
+
+    for _ in 0..1000 {
+        if let JobEnd::Refused { number, .. } =
+            second::job(&song(&mut rng).bytes(), &mut buffer, u32::MAX)
+        {
+            assert_eq!(number, 8);
+        }
+    }
+}
+
+#[test]
+fn damage_meets_each_refusal() {
+    let mut rng = Rng::new(11);
+    let mut jobs = [0; 15];
+    let mut singles = [0; 15];
+    let mut buffer = vec![0; 1 << 18];
+
+    for _ in 0..5000 {
+        if let JobEnd::Refused { number, .. } = second::job(&damaged(&mut rng), &mut buffer, 1000) {
+            jobs[number as usize] += 1;
+        }
+        let (ask, length) = damaged_single(&mut rng);
+        if let SingleEnd::Refused { number, .. } = second::single(&ask, &mut buffer[..length]) {
+            singles[number as usize] += 1;
+        }
+    }
+
+    assert!((1..=8).all(|number| jobs[number] > 20), "{jobs:?}");
+    assert!(
+        [4, 5, 6, 8, 11, 12, 13]
+            .iter()
+            .all(|&number| singles[number] > 20),
+        "{singles:?}"
+    );
+}
+
+#[test]
+fn what_is_needed_is_lent_often() {
+    let mut rng = Rng::new(13);
+    let need = Need {
+        draws: 40,
+        length: 8 + 17 * 30,
+    };
+    let exact = (0..1000)
+        .filter(|_| lent(&mut rng, Some(need)) == (need.draws, need.length))
+        .count();
+    assert!(exact > 50);
+}

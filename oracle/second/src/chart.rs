@@ -1,0 +1,108 @@
+//! Chart bytes: writer and reader.
+
+use entry::{Chart, Note};
+
+use crate::{
+    bits::Bits,
+    floats::Ticks,
+    hits::{B, hit},
+};
+
+pub const HEADER: usize = 8;
+pub const NOTE: usize = 17;
+
+/// No note ends after this.
+const LAST_END: f64 = 33_554_431.0;
+
+pub fn pack_header(columns: u8, notes: usize, draws: u32) -> [u8; HEADER] {
+    (1 << 60 | u64::from(columns & 15) << 56 | (notes as u64 & 0xff_ffff) << 32 | u64::from(draws))
+        .to_be_bytes()
+}
+
+pub fn pack_note(note: &Note) -> [u8; NOTE] {
+    let mut bytes = [0; NOTE];
+    bytes[0] = (note.column & 15) << 4 | u8::from(note.hold) << 3;
+    bytes[1..9].copy_from_slice(&note.start.to_be_bytes());
+    bytes[9..].copy_from_slice(&note.duration.to_be_bytes());
+
+    bytes
+}
+
+pub fn write_chart(columns: u8, draws: u32, notes: &[Note]) -> Vec<u8> {
+    let mut bytes = pack_header(columns, notes.len(), draws).to_vec();
+    bytes.extend(notes.iter().flat_map(pack_note));
+
+    bytes
+}
+
+/// A rule of the reader; `row` counts where it is broken.
+fn demand(holds: bool, row: B) -> Option<()> {
+    if holds {
+        Some(())
+    } else {
+        hit(row);
+        None
+    }
+}
+
+/// `None` is refusal 14.
+pub fn read_chart(bytes: &[u8]) -> Option<Chart> {
+    demand(bytes.len() >= HEADER, B::chart_header_cut)?;
+    let mut bits = Bits::new(bytes);
+    demand(bits.field(4)? == 1, B::chart_version)?;
+    let columns = bits.field(4)? as u8;
+    demand((1..=9).contains(&columns), B::chart_columns)?;
+    let count = bits.field(24)? as usize;
+    let draws = bits.field(32)? as u32;
+    demand(bytes.len() >= HEADER + NOTE * count, B::chart_notes_missing)?;
+    demand(bytes.len() <= HEADER + NOTE * count, B::chart_bytes_follow)?;
+
+    let last_end = Ticks::of(LAST_END)?;
+    let mut notes: Vec<Note> = Vec::with_capacity(count);
+    let mut before = 0.0;
+
+    for _ in 0..count {
+        let column = bits.field(4)? as u8;
+        demand(column < columns, B::chart_column)?;
+        let hold = bits.field(1)? == 1;
+        demand(bits.field(3)? == 0, B::chart_zero_bits)?;
+        let start = bits.field(64)?;
+        let duration = bits.field(64)?;
+        let negative_zero = (-0.0_f64).to_bits();
+        demand(
+            start != negative_zero && duration != negative_zero,
+            B::chart_negative_zero,
+        )?;
+        let (from, lasts) = (f64::from_bits(start), f64::from_bits(duration));
+        demand(from.is_finite() && lasts.is_finite(), B::chart_not_finite)?;
+        demand(from >= 0.0, B::chart_start_negative)?;
+        demand(from >= before, B::chart_start_falls)?;
+
+        if hold {
+            demand(lasts > 0.0, B::chart_hold_not_above_0)?;
+        } else {
+            demand(duration == 0, B::chart_circle_with_duration)?;
+        }
+
+        let within = match (Ticks::of(from), Ticks::of(lasts)) {
+            (Some(from), Some(lasts)) => from.plus(lasts).at_most(last_end),
+            _ => false,
+        };
+        demand(within, B::chart_end_beyond)?;
+
+        before = from;
+        notes.push(Note {
+            column,
+            hold,
+            start,
+            duration,
+        });
+    }
+
+    hit(B::chart_read);
+    Some(Chart {
+        columns,
+        draws,
+        notes,
+    })
+}

@@ -1,0 +1,24 @@
+//! A second implementation of the mania conversion, written from document 01.
+//! Patterns are a mask, a last column and notes; refusals are values; draws count against an allowance.
+
+mod bits;
+mod chart;
+mod circle;
+mod convert;
+mod draws;
+mod ended;
+mod floats;
+pub mod hits;
+mod pattern;
+mod record;
+mod refusal;
+mod search;
+mod slider;
+mod text;
+
+pub use chart::{read_chart, write_chart};
+pub use convert::{job, single};
+pub use text::charttext;
+
+#[cfg(test)]
+mod tests;

@@ -1,0 +1,38 @@
+//! Document 01's refusals. 14 is the chart reader's `None`.
+
+#[derive(Clone, Copy, Debug, PartialEq, Eq)]
+pub enum Refusal {
+    NotWhole,
+    Version,
+    KeyChoice,
+    Setting,
+    Point,
+    ObjectField,
+    Surplus,
+    SliderEnd,
+    NoValidColumn,
+    OffDeck,
+    BufferShort,
+    NoDrawLeft,
+    Previous,
+}
+
+impl Refusal {
+    pub const fn number(self) -> u8 {
+        match self {
+            Self::NotWhole => 1,
+            Self::Version => 2,
+            Self::KeyChoice => 3,
+            Self::Setting => 4,
+            Self::Point => 5,
+            Self::ObjectField => 6,
+            Self::Surplus => 7,
+            Self::SliderEnd => 8,
+            Self::NoValidColumn => 9,
+            Self::OffDeck => 10,
+            Self::BufferShort => 11,
+            Self::NoDrawLeft => 12,
+            Self::Previous => 13,
+        }
+    }
+}
