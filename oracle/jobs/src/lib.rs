@@ -11,7 +11,7 @@ mod song;
 pub use charts::{chart, damaged_chart};
 pub use damage::damaged;
 pub use lent::{Need, lent};
-pub use records::{record, song};
+pub use records::{Bound, bound, record, song};
 pub use rng::Rng;
 pub use singles::{damaged_single, single, state_giving};
 pub use song::{Field, Name, Object, Song, pack};

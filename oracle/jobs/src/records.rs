@@ -45,6 +45,45 @@ const SHARES: &[f64] = &[
     0.0, 0.1, 0.19, 0.2, 0.21, 0.25, 0.3, 0.31, 0.4, 0.5, 0.6, 0.61, 0.7, 1.0,
 ];
 
+/// A song's size and settings that bring its conversion difficulty to a bound of the rules.
+#[derive(Clone, Copy, Debug, PartialEq)]
+pub struct Bound {
+    pub objects: usize,
+    /// Drain, in whole seconds.
+    pub seconds: u32,
+    pub hp: f32,
+    pub ar: f32,
+}
+
+/// Objects, seconds and hp + ar for which the difficulty is 2, 2.5, 3, 4 or 6.5, or the float above it.
+const BOUNDS: &[(usize, u32, f32)] = &[
+    (18, 25, 16.5),
+    (61, 50, 9.75),
+    (19, 10, 7.125),
+    (7, 5, 13.875),
+    (52, 25, 11.25),
+    (181, 75, 6.75),
+    (86, 25, 6.0),
+    (147, 50, 12.75),
+    (388, 75, 15.375),
+    (146, 25, 6.375),
+];
+
+/// A song at a bound of the conversion difficulty, or a little off it.
+pub fn bound(rng: &mut Rng) -> Bound {
+    let (objects, seconds, sum) = rng.pick(BOUNDS);
+    let ar = (sum - 10.0).max(4.0);
+    let hp = sum - ar;
+    let hp = rng.pick(&[hp, hp, hp.next_down(), hp.next_up().min(10.0)]);
+
+    Bound {
+        objects,
+        seconds,
+        hp,
+        ar,
+    }
+}
+
 /// A valid record.
 pub fn record(rng: &mut Rng) -> Vec<u8> {
     song(rng).bytes()
@@ -249,6 +288,11 @@ pub fn song(rng: &mut Rng) -> Song {
         multiplier: multiplier(rng),
         ..Song::default()
     };
+    let at_bound = rng.percent(3).then(|| bound(rng));
+    if let Some(bound) = at_bound {
+        (song.hp, song.ar) = (bound.hp, bound.ar);
+    }
+    let count = at_bound.map_or(count, |bound| bound.objects);
     let until = count as f64 * rng.pick(&[100.0, 200.0, 600.0]) + 1000.0;
     song.timing = times(rng, until)
         .into_iter()
@@ -264,7 +308,10 @@ pub fn song(rng: &mut Rng) -> Song {
         .collect();
 
     fill(rng, &mut song, count);
-    pace(rng, &mut song);
+    match at_bound {
+        Some(bound) => drain(rng, &mut song, f64::from(bound.seconds) * 1000.0),
+        None => pace(rng, &mut song),
+    }
 
     song
 }
@@ -424,10 +471,15 @@ fn pace(rng: &mut Rng, song: &mut Song) {
     };
     let settings = f64::from(song.hp + song.ar.clamp(4.0, 7.0)) / 1.5;
     let each = (wanted * 38.0 * 1.15 / 5.0 - settings) / 9.0;
-    let drain = (count as f64 / each * 1000.0).clamp(-LAST_TIME, LAST_TIME);
+    let lasts = (count as f64 / each * 1000.0).clamp(-LAST_TIME, LAST_TIME);
+    drain(rng, song, lasts);
+}
+
+/// Sets breaks or the last start so that drain is so many milliseconds, up to 400 more.
+fn drain(rng: &mut Rng, song: &mut Song, wanted: f64) {
+    let count = song.objects.len();
     let lasts = song.objects[count - 1].start - song.objects[0].start;
-    // Within the second, but not near its bounds.
-    let over = lasts - drain - rng.uniform(0.0, 400.0);
+    let over = lasts - wanted - rng.uniform(1.0, 400.0);
 
     if over < 0.0 {
         let last = &mut song.objects[count - 1].start;

@@ -24,6 +24,12 @@ const MIRRORED_CHANCES: &[f64] = &[
     0.03, 0.03, 0.04, 0.1, 0.12, 0.12, 0.15, 0.17, 0.23, 0.25, 0.085, 0.38, 0.585, 0.69, 0.5,
 ];
 
+/// The chances of a slider's holds.
+const HOLD_CHANCES: &[f64] = &[
+    0.03, 0.04, 0.04, 0.08, 0.1, 0.1, 0.17, 0.18, 0.23, 0.27, 0.3, 0.34, 0.34, 0.36, 0.37, 0.43,
+    0.56, 0.78, 0.85,
+];
+
 /// Bounds of the conversion difficulty.
 const DIFFICULTIES: &[f64] = &[2.0, 2.5, 3.0, 4.0, 6.5, 12.0];
 
@@ -91,6 +97,8 @@ enum Focus {
     Near,
     Mirror,
     Slider,
+    /// A slider of one span, long enough for holds.
+    Holds,
     /// 8 columns after column 0 alone, all columns, or all but column 0.
     Special,
 }
@@ -102,6 +110,7 @@ fn focus(rng: &mut Rng) -> Focus {
         2 | 3 => Focus::Mirror,
         4 | 5 => Focus::Slider,
         6 => Focus::Special,
+        7 => Focus::Holds,
         _ => Focus::Any,
     }
 }
@@ -112,6 +121,7 @@ pub fn single(rng: &mut Rng) -> (Single, usize) {
     let columns: i64 = match focus {
         Focus::Mirror => rng.pick(&[2, 3, 4, 5, 5, 5, 6, 7, 7, 9, 9]),
         Focus::Special => 8,
+        Focus::Holds => rng.pick(&[2, 3, 4, 4, 5, 5, 6, 7, 8, 9]),
         _ if rng.percent(35) => 8,
         _ => rng.between(1, 9),
     };
@@ -163,16 +173,16 @@ pub fn single(rng: &mut Rng) -> (Single, usize) {
     let place = position(rng, near, columns, prev);
     let kind = match rng.below(20) {
         _ if matches!(focus, Focus::Stair | Focus::Near | Focus::Mirror) => Kind::Circle,
-        which if focus == Focus::Slider || (10..=15).contains(&which) => {
-            let segment = if rng.percent(80) {
-                rng.pick(SEGMENTS)
-            } else {
-                rng.uniform(0.0, 1000.0).round()
+        which if matches!(focus, Focus::Slider | Focus::Holds) || (10..=15).contains(&which) => {
+            let segment = match rng.below(5) {
+                _ if focus == Focus::Holds => rng.pick(&[111.0, 500.0, 1000.0]),
+                0 => rng.uniform(0.0, 1000.0).round(),
+                _ => rng.pick(SEGMENTS),
             };
-            let repeats = if focus == Focus::Slider {
-                rng.between(1, 7) as u32
-            } else {
-                repeats(rng)
+            let repeats = match focus {
+                Focus::Slider => rng.between(1, 7) as u32,
+                Focus::Holds => 0,
+                _ => repeats(rng),
             };
             slider(rng, segment, repeats, (multiplier, beat_length, velocity))
         }
@@ -191,10 +201,10 @@ pub fn single(rng: &mut Rng) -> (Single, usize) {
         }
     };
     let bound = beat_length / 2.5;
-    let chances = if focus == Focus::Mirror {
-        MIRRORED_CHANCES
-    } else {
-        CHANCES
+    let chances = match focus {
+        Focus::Mirror => MIRRORED_CHANCES,
+        Focus::Holds => HOLD_CHANCES,
+        _ => CHANCES,
     };
     let single = Single {
         x: place.0,
