@@ -6,7 +6,7 @@ ghost use Rattle.bits.specs.Field.{bits, short};
 
 // 2 to the k.
 fn power(k: usize) -> u64
-    requires { ⌜ k ≤ 8 ⌝ }
+    requires { ⌜ k ≤ 63 ⌝ }
     ensures { λ r. ⌜ r ≡ 2 ^ k ⌝ }
 {
     1 << k
@@ -35,8 +35,8 @@ fn byte_at(s: &[u8], i: usize) -> u8
     if i < s.len() { s[i] } else { 0 }
 }
 
-// The number that the `width` bits from bit `at` on spell; bits past the end are 0. Each turn takes what the field has of one byte.
-pub fn read_bits(s: &[u8], at: usize, width: usize) -> u64
+// A field near the end of the bytes. Each turn takes what the field has of one byte.
+fn read_by_bytes(s: &[u8], at: usize, width: usize) -> u64
     requires { ⌜ (width ≤ 64) × (at ≤ 4294967296) ⌝ }
     ensures { λ r. ⌜ r ≡ bits (now (s .entry)) at width ⌝ }
 {
@@ -52,6 +52,42 @@ pub fn read_bits(s: &[u8], at: usize, width: usize) -> u64
         done += k;
     }
     v
+}
+
+// The four bytes from byte i on, as one number.
+fn four_bytes(s: &[u8], i: usize) -> u64
+    requires { ⌜ i + 4 ≤ length (now s) ⌝ }
+    ensures { λ r. ⌜ r ≡ bits (now (s .entry)) (8 * i) 32 ⌝ }
+{
+    let one = joined(0, s[i], 8, 8);
+    let two = joined(one, s[i + 1], 8, 8);
+    let three = joined(two, s[i + 2], 8, 8);
+    joined(three, s[i + 3], 8, 8)
+}
+
+// The 64 bits from bit `off` of byte i on.
+fn word(s: &[u8], i: usize, off: usize) -> u64
+    requires { ⌜ (i + 9 ≤ length (now s)) × (off ≤ 7) ⌝ }
+    ensures { λ r. ⌜ r ≡ bits (now (s .entry)) (8 * i + off) 64 ⌝ }
+{
+    let high = four_bytes(s, i) % power(32 - off);
+    let low = four_bytes(s, i + 4);
+    joined(high * 4294967296 + low, s[i + 8], 8, off)
+}
+
+// The number that the `width` bits from bit `at` on spell; bits past the end are 0. Where nine bytes are there, they hold the field.
+pub fn read_bits(s: &[u8], at: usize, width: usize) -> u64
+    requires { ⌜ (width ≤ 64) × (at ≤ 4294967296) ⌝ }
+    ensures { λ r. ⌜ r ≡ bits (now (s .entry)) at width ⌝ }
+{
+    let i = at / 8;
+    if width == 0 {
+        return 0;
+    }
+    if s.len() < i + 9 {
+        return read_by_bytes(s, at, width);
+    }
+    word(s, i, at % 8) / power(64 - width)
 }
 
 // Whether the bytes end before bit `end`.

@@ -1,76 +1,50 @@
--- `bits::read_bits` meets its contract. The loop's invariant: v is the field's first `done` bits. Each turn ends at a byte's end or at the field's.
--- Assumes nothing.
-use mathlib.Core.Path.{_≡_, refl, sym, ap, _∙_}
-use Prim.Native.Nat.{ℕ, _+_, _-_, _*_, _/_, _%_, _^_, _≤_, _<_, min}
-use native.Mathlib.Nat.{lt-of-lt-of-le}
+-- `bits::read_bits` meets its contract: the nine bytes from the first bit's on hold the field, or its bytes are read one by one. Assumes nothing.
 use native.Mathlib.Omega.{arith}
-use lib.Pow.{pow-mono}
+use lib.Pow.{pow-pos}
 use Rattle.bits.specs.Field.{bits}
-use Rattle.bits.specs.Laws.Fields.{bits-lt, bits-more}
+use Rattle.bits.proofs.Words.{field-is}
+use borrow.Author.Needs.{needs}
 use Rattle.bits.proofs.read_bits.Statement.{statement}
 use Rattle.bits.proofs.read_bits.Tie as tie
 
-abbrev Inv-loop : tie.InvT-loop
-Inv-loop s at width v₀ done₀ v done = (done ≤ width) × (v ≡ bits s at done)
-
-abbrev μ-loop : tie.MeasureT-loop
-μ-loop s at width v₀ done₀ v done = width - done
-
-loop-holds : tie.Need-loop-holds Inv-loop μ-loop
+returns : tie.Need-returns
 unfolding bits
-loop-holds c = (omega arith, refl)
+returns c = rw (c .if1 .taken)
 
-add-here : tie.Need-add-here Inv-loop μ-loop
-add-here c = omega arith
+add-if2 : tie.Need-add-if2
+add-if2 c = search needs
 
-sub-left : tie.Need-sub-left Inv-loop μ-loop
-sub-left c = omega arith
+read-by-bytes-requires : tie.Need-read-by-bytes-requires
+read-by-bytes-requires c κs = search needs
 
-sub-room : tie.Need-sub-room Inv-loop μ-loop
-sub-room c = omega arith
+returns-2 : tie.Need-returns-2
+returns-2 c = search needs
 
-least-requires : tie.Need-least-requires Inv-loop μ-loop
-least-requires c κs = tt
+word-requires : tie.Need-word-requires
+word-requires c κs = search needs
 
-byte-at-requires : tie.Need-byte-at-requires Inv-loop μ-loop
-byte-at-requires c κs = tt
+sub-power : tie.Need-sub-power
+sub-power c = search needs
 
-joined-requires : tie.Need-joined-requires Inv-loop μ-loop
-joined-requires c κs =
-    let a = c .before .before .before .before .before .args in
-    let at-loop = c .before .before .before .loop in
-    (omega arith, omega arith, rw (at-loop .inv .1) (lt-of-lt-of-le (bits-lt (a .s .now) (a .at) (at-loop .done)) (pow-mono (omega arith))))
+power-requires : tie.Need-power-requires
+power-requires c κs = search needs
 
-add-done : tie.Need-add-done Inv-loop μ-loop
-add-done c = omega arith
+div-result : tie.Need-div-result
+div-result c = rw (c .power .ensures) (pow-pos _)
 
-loop-less : tie.Need-loop-less Inv-loop μ-loop
-loop-less c = omega arith
-
-loop-again : tie.Need-loop-again Inv-loop μ-loop
-loop-again c =
-    let a = c .before .before .before .before .before .before .args in
-    let at-loop = c .before .before .before .before .loop in
-    let here : ℕ = a .at + at-loop .done in
-    (omega arith, c .joined .ensures ∙ rw (at-loop .inv .1, c .before .byte-at .ensures) (sym (bits-more (a .s .now) (a .at) (at-loop .done) (here / 8) (here % 8) (c .before .before .least .result) (omega arith) (omega arith))))
-
-returns : tie.Need-returns Inv-loop μ-loop
-returns c = c .before .loop .inv .1 ∙ ap (bits _ _) (omega arith)
+returns-3 : tie.Need-returns-3
+returns-3 c = rw (c .before .word .ensures, c .power .ensures) (field-is _ _ _ (omega arith))
 
 pub read-bits-spec : {M : Type 1} → statement M
 read-bits-spec =
     tie.close
     (tie.spec
-    Inv-loop
-    μ-loop
-    loop-holds
-    add-here
-    sub-left
-    sub-room
-    least-requires
-    byte-at-requires
-    joined-requires
-    add-done
-    loop-less
-    loop-again
-    returns)
+    returns
+    add-if2
+    read-by-bytes-requires
+    returns-2
+    word-requires
+    sub-power
+    power-requires
+    div-result
+    returns-3)

@@ -1,0 +1,2 @@
+-- A field by the nine bytes that hold it (`Words`).
+pub mod Words

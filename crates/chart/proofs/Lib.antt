@@ -1,0 +1,3 @@
+pub mod Moved
+pub mod Turned
+pub mod Runs

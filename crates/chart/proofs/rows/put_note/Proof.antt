@@ -1,0 +1,53 @@
+-- `chart::rows::put_note` meets its contract. The store and the two splices after it are one splice of the note's bytes (`note-put`).
+-- Assumes nothing.
+use mathlib.Core.Path.{_≡_, _∙_}
+use native.Mathlib.Omega.{arith}
+use lib.ListN.{length, length-set}
+use Rattle.chart.specs.Laws.Notes.{note-put}
+use borrow.Author.Needs.{needs}
+use Rattle.chart.proofs.rows.put_note.Statement.{statement}
+use Rattle.chart.proofs.rows.put_note.Tie as tie
+
+head-requires : tie.Need-head-requires
+head-requires c κs = search needs
+
+slice-write-s : tie.Need-slice-write-s
+slice-write-s c = search needs
+
+add-put : tie.Need-add-put
+add-put c = search needs
+
+put-requires : tie.Need-put-requires
+put-requires c κs = simp length-set (omega arith)
+
+add-put-2 : tie.Need-add-put-2
+add-put-2 c = search needs
+
+put-requires-2 : tie.Need-put-requires-2
+put-requires-2 c κs =
+    let put = c .before .before .before in
+    let kept : length (put .put .last .0) ≡ length (put .before .before .before .before .args .s .now) = put .put .kept .0 ∙ simp length-set in
+    rw kept (omega arith)
+
+same-length : tie.Need-same-length
+same-length c = c .before .before .put2 .kept .0 ∙ c .before .before .before .before .before .before .put .kept .0 ∙ simp length-set
+
+returns : tie.Need-returns
+returns c =
+    let put = c .before .before .before .before .before .before in
+    let start = put .before .before .before .before in
+    c .before .before .put2 .ensures
+    ∙ rw (put .put .ensures) (note-put (start .args .s .now) (start .args .at) (start .args .n) (put .before .before .head .ensures) (start .pre .1))
+
+pub put-note-spec : {M : Type 1} → statement M
+put-note-spec =
+    tie.close
+    (tie.spec
+    head-requires
+    slice-write-s
+    add-put
+    put-requires
+    add-put-2
+    put-requires-2
+    same-length
+    returns)

@@ -1,0 +1,154 @@
+-- The chart: its bytes, and the rule by which it is read.
+-- Assumes nothing.
+use mathlib.Core.Path.{_≡_}
+use mathlib.Core.Bool.{Bool, true, false, _&&_, cond}
+use mathlib.Core.List.{List, [], _∷_, _++_}
+use mathlib.Core.Option.{Option, none, some}
+use Prim.Native.Nat.{ℕ, zero, suc, _+_, _*_, _/_, _%_, _^_, _≤_, _<_}
+use lib.Dec.{leb, ltb, eqb}
+use lib.ListN.{length, getD, take, drop}
+use Rattle.chart.specs.declared.Note.{Note}
+use Rattle.chart.specs.declared.Answer.{Answer}
+use Rattle.chart.specs.declared.Answer.the-variants.{Chart, Refused}
+use Rattle.chart.specs.declared.Found.{Found}
+use Rattle.chart.specs.declared.Found.the-variants.{At, Nothing}
+use Rattle.chart.specs.Tests.{every}
+use Rattle.floats.specs.Ticks.{ticks}
+use Rattle.chart.specs.Time.{time, isTime, latest}
+use Rattle.chart.specs.Bytes.{be, num}
+
+-- ---- the bytes of a chart
+
+-- a note's 17 bytes: column 4 bits, hold 1, zero 3, start 64, duration 64
+unfoldable pub noteBytes : Note → List ℕ
+noteBytes n = (n .column * 16 + cond (n .hold) 8 0) ∷ (be 8 (n .start) ++ be 8 (n .duration))
+
+unfoldable pub body : List Note → List ℕ
+body [] = []
+body (n ∷ ns) = noteBytes n ++ body ns
+
+-- version 4 bits (1), columns 4, notes 24, draws 32
+unfoldable pub header : ℕ → ℕ → ℕ → List ℕ
+header columns count draws = (16 + columns) ∷ (be 3 count ++ be 4 draws)
+
+unfoldable pub encode : ℕ → ℕ → List Note → List ℕ
+encode columns draws ns = header columns (length ns) draws ++ body ns
+
+-- ---- what a chart's bytes say
+
+unfoldable pub noteOf : List ℕ → Note
+noteOf s = record { column = getD s 0 0 / 16; hold = leb 8 (getD s 0 0 % 16); start = num 8 (drop 1 s); duration = num 8 (drop 9 s) }
+
+unfoldable pub notesOf : ℕ → List ℕ → List Note
+notesOf zero s = []
+notesOf (suc k) s = noteOf s ∷ notesOf k (drop 17 s)
+
+-- from index i on, s holds the bytes of so many notes
+unfoldable pub Holds : List ℕ → ℕ → ℕ → Type 0
+Holds s i count = take (17 * count) (drop i s) ≡ body (notesOf count (drop i s))
+
+-- ---- the rule of the chart reader
+
+-- a hold lasts; the duration of a circle is zero bits
+unfoldable pub lasts : Bool → ℕ → Bool
+lasts true d = ltb 0 (ticks (time d))
+lasts false d = eqb d 0
+
+-- whether a note may stand in a chart of so many columns, after a note that starts at `last`: its column is one of them; its times are from 0,
+-- with no NaN, infinity or negative zero; starts do not fall; and start plus duration, exact, is at most 33,554,431
+unfoldable pub noteTests : ℕ → ℕ → Note → List Bool
+noteTests columns last n =
+    ltb (n .column) columns
+    ∷ isTime (time (n .start))
+    ∷ isTime (time (n .duration))
+    ∷ leb (ticks (time last)) (ticks (time (n .start)))
+    ∷ lasts (n .hold) (n .duration)
+    ∷ leb (ticks (time (n .start)) + ticks (time (n .duration))) latest
+    ∷ []
+
+unfoldable pub okNote : ℕ → ℕ → Note → Bool
+okNote columns last n = every (noteTests columns last n)
+
+unfoldable pub okNotes : ℕ → ℕ → List Note → Bool
+okNotes columns last [] = true
+okNotes columns last (n ∷ ns) = okNote columns last n && okNotes columns (n .start) ns
+
+-- what encode is meant for: a chart that keeps the rule, with numbers that fit their fields
+pub record Well (columns draws : ℕ) (ns : List Note) : Type 0 where
+  pub some-columns : 1 ≤ columns
+  pub few-columns : columns ≤ 9
+  pub draws-fit : draws < 2 ^ 32
+  pub notes-fit : length ns < 2 ^ 24
+  pub notes-ok : okNotes columns 0 ns ≡ true
+
+-- the three bits after a note's column and kind are zero, and the note may stand there
+unfoldable pub okRow : ℕ → ℕ → List ℕ → Bool
+okRow columns last s = eqb (getD s 0 0 % 8) 0 && okNote columns last (noteOf s)
+
+unfoldable pub okRows : ℕ → ℕ → ℕ → List ℕ → Bool
+okRows columns last zero s = true
+okRows columns last (suc k) s = okRow columns last s && okRows columns (noteOf s .start) k (drop 17 s)
+
+-- the fields of the header
+unfoldable pub columnsOf : List ℕ → ℕ
+columnsOf s = getD s 0 0 % 16
+
+unfoldable pub countOf : List ℕ → ℕ
+countOf s = num 3 (drop 1 s)
+
+unfoldable pub drawsOf : List ℕ → ℕ
+drawsOf s = num 4 (drop 4 s)
+
+-- eight bytes at least, version 1, columns 1 to 9, and exactly the stated notes
+unfoldable pub headTests : List ℕ → List Bool
+headTests s =
+    leb 8 (length s)
+    ∷ eqb (getD s 0 0 / 16) 1
+    ∷ leb 1 (columnsOf s)
+    ∷ leb (columnsOf s) 9
+    ∷ eqb (length s) (8 + 17 * countOf s)
+    ∷ []
+
+unfoldable pub okHead : List ℕ → Bool
+okHead s = every (headTests s)
+
+unfoldable pub okChart : List ℕ → Bool
+okChart s = okHead s && okRows (columnsOf s) 0 (countOf s) (drop 8 s)
+
+pub record Score : Type 0 where
+  pub columns : ℕ
+  pub draws : ℕ
+  pub notes : List Note
+
+unfoldable pub scoreOf : List ℕ → Score
+scoreOf s = record { columns = columnsOf s; draws = drawsOf s; notes = notesOf (countOf s) (drop 8 s) }
+
+unfoldable pub decode : List ℕ → Option Score
+decode s = cond (okChart s) (some (scoreOf s)) none
+
+-- ---- the reader's answers
+
+-- document 01's: the number of a refusal, or the columns, the number of notes and the draws
+pub data Reading : Type 0 where
+  refused : ℕ → Reading
+  accepted : ℕ → ℕ → ℕ → Reading
+
+unfoldable pub readingOf : Option Score → Reading
+readingOf none = refused 14
+readingOf (some c) = accepted (c .columns) (length (c .notes)) (c .draws)
+
+unfoldable pub reading : List ℕ → Reading
+reading s = readingOf (decode s)
+
+-- what each case of the code's answer stands for
+abbrev pub meaning : Answer → Reading
+meaning (Chart columns notes draws) = accepted columns notes draws
+meaning Refused = refused 14
+
+-- the note of index i, where the bytes go on to its end
+unfoldable pub noteIn : List ℕ → ℕ → Option Note
+noteIn s i = cond (leb (8 + 17 * i + 17) (length s)) (some (noteOf (drop (8 + 17 * i) s))) none
+
+abbrev pub found : Found → Option Note
+found (At n) = some n
+found Nothing = none

@@ -1,0 +1,62 @@
+-- Worked examples, computed. Assumes nothing.
+use mathlib.Core.Path.{_≡_, refl}
+use mathlib.Core.Bool.{true, false}
+use mathlib.Core.List.{List, [], _∷_}
+use Prim.Native.Nat.{ℕ, _^_, _*_}
+use lib.Ieee.{ofBits, le, lt, eq}
+use Rattle.floats.specs.Range.{inRange}
+use Rattle.floats.specs.Ticks.{ticks}
+use Rattle.chart.specs.declared.Note.{Note}
+use Rattle.chart.specs.Tests.{every}
+use Rattle.chart.specs.Bytes.{be, num}
+use Rattle.chart.specs.Time.{time, isTime}
+use Rattle.chart.specs.Order.{above, insert, arranged}
+use Rattle.chart.specs.Chart.{refused, accepted, encode, header, body, noteBytes, noteOf, reading, readingOf, decode, okChart, okHead, headTests, okRows, okRow, okNote, noteTests, lasts, notesOf, columnsOf, countOf, drawsOf, scoreOf}
+
+-- 1000.0, 2^-1074, and what is no time: -0.0, infinity, a NaN, -1.0
+one-second : ticks (time 0x408f_4000_0000_0000) ≡ 1000 * 2 ^ 1074
+unfolding ticks ofBits
+one-second = refl
+
+smallest : ticks (time 1) ≡ 1
+unfolding ticks ofBits
+smallest = refl
+
+no-times : (isTime (time 0x8000_0000_0000_0000) ≡ false) × (isTime (time 0x7ff0_0000_0000_0000) ≡ false) × (isTime (time 0x7ff8_0000_0000_0000) ≡ false) × (isTime (time 0xbff0_0000_0000_0000) ≡ false)
+unfolding isTime inRange le lt eq ofBits
+no-times = (refl, refl, refl, refl)
+
+-- one hold in column 1 at 1000 for 300
+hold : Note
+hold = record { column = 1; hold = true; start = 0x408f_4000_0000_0000; duration = 0x4072_c000_0000_0000 }
+
+bytes : List ℕ
+bytes = 0x19 ∷ 0 ∷ 0 ∷ 1 ∷ 0 ∷ 0 ∷ 0 ∷ 1 ∷ 0x18 ∷ 0x40 ∷ 0x8f ∷ 0x40 ∷ 0 ∷ 0 ∷ 0 ∷ 0 ∷ 0 ∷ 0x40 ∷ 0x72 ∷ 0xc0 ∷ 0 ∷ 0 ∷ 0 ∷ 0 ∷ 0 ∷ []
+
+hold-bytes : encode 9 1 (hold ∷ []) ≡ bytes
+unfolding encode header body noteBytes be hold bytes
+hold-bytes = refl
+
+hold-read : reading bytes ≡ accepted 9 1 1
+unfolding reading readingOf decode scoreOf okChart okHead headTests every columnsOf countOf drawsOf notesOf noteOf okRows okRow okNote noteTests lasts isTime inRange le lt eq ticks ofBits num bytes
+hold-read = refl
+
+short : reading (0x19 ∷ 0 ∷ 0 ∷ 0 ∷ 0 ∷ 0 ∷ 0 ∷ []) ≡ refused 14
+unfolding reading readingOf decode okChart okHead headTests every
+short = refl
+
+-- a hold at 33554431 for 2^-1074: the exact sum is past the bound, the rounded one would not be
+past : List ℕ
+past = 0x19 ∷ 0 ∷ 0 ∷ 1 ∷ 0 ∷ 0 ∷ 0 ∷ 1 ∷ 0x18 ∷ 0x41 ∷ 0x7f ∷ 0xff ∷ 0xff ∷ 0xf0 ∷ 0 ∷ 0 ∷ 0 ∷ 0 ∷ 0 ∷ 0 ∷ 0 ∷ 0 ∷ 0 ∷ 0 ∷ 1 ∷ []
+
+past-bound : reading past ≡ refused 14
+unfolding reading readingOf decode okChart okHead headTests every columnsOf countOf noteOf okRows okRow okNote noteTests lasts isTime inRange le lt eq ticks ofBits num past
+past-bound = refl
+
+-- of equal starts the one that came first stands first
+circle : ℕ → ℕ → Note
+circle column start = record { column = column; hold = false; start = start; duration = 0 }
+
+in-order : arranged [] (circle 3 5 ∷ circle 1 2 ∷ circle 0 5 ∷ circle 2 2 ∷ []) ≡ circle 1 2 ∷ circle 2 2 ∷ circle 3 5 ∷ circle 0 5 ∷ []
+unfolding arranged insert above circle
+in-order = refl

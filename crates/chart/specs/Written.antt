@@ -1,0 +1,89 @@
+-- What the writer writes is read: notes that may each stand alone in a chart may stand there together once they are in order.
+-- Assumes nothing.
+use mathlib.Core.Path.{_≡_, refl, sym, _∙_}
+use mathlib.Core.Bool.{true, false}
+use mathlib.Core.Logic.{⊎-elim}
+use mathlib.Core.List.{List, [], _∷_}
+use mathlib.Core.Option.{some}
+use Prim.Native.Nat.{ℕ, _+_, _^_, _≤_, _<_, zero-le}
+use native.Mathlib.Nat.{zero-add, add-zero}
+use native.Mathlib.Omega.{arith}
+use lib.Dec.{T, leb}
+use lib.ListN.{length}
+use lib.Ieee.{Float, binary64, fits, toBits}
+use borrow.Author.Tests.{le-leb, lt-ltb}
+use Rattle.floats.specs.Ticks.{ticks}
+use Rattle.floats.specs.Laws.Values.{Sized}
+use Rattle.chart.specs.declared.Note.{Note}
+use Rattle.chart.specs.Tests.{passes, either-way}
+use Rattle.chart.specs.Laws.Times.{ticks-leb, ticks-zero, time-below, time-toBits, toBits-time}
+use Rattle.chart.specs.Time.{time, latest}
+use Rattle.chart.specs.Chart.{encode, decode, lasts, noteTests, okNote, okNotes}
+use Rattle.chart.specs.Laws.Reader.{note-decided, note-fits}
+use Rattle.chart.specs.Order.{Rising, insert, above, arranged, sorted}
+use Rattle.chart.specs.RoundTrip.{decode-encode}
+use Rattle.chart.specs.Laws.Arranged.{length-arranged}
+
+-- ---- the notes that the rules make, by their floats
+
+module _ (columns c : ℕ) (on : c < columns) (x : Float) (fx : T (fits binary64 x)) (vx : Sized x) where
+  from-start : leb (ticks (time 0)) (ticks (time (toBits binary64 x))) ≡ true
+  from-start = rw ticks-zero (le-leb 0 (ticks (time (toBits binary64 x))) zero-le)
+
+  pub circle-ok : ticks x ≤ latest → okNote columns 0 (record { column = c; hold = false; start = toBits binary64 x; duration = 0 }) ≡ true
+  unfolding lasts
+  circle-ok end =
+      sym (note-decided columns 0 _ (lt-ltb c columns on) (toBits-time x fx vx) (time-below 0 (omega arith)) from-start refl)
+      ∙ rw (time-toBits x fx, ticks-zero, add-zero (ticks x)) (le-leb (ticks x) latest end)
+
+  pub hold-ok : (d : Float) → T (fits binary64 d) → Sized d → 0 < ticks d → ticks x + ticks d ≤ latest
+      → okNote columns 0 (record { column = c; hold = true; start = toBits binary64 x; duration = toBits binary64 d }) ≡ true
+  unfolding lasts
+  hold-ok d fd vd lasting end =
+      sym (note-decided columns 0 _ (lt-ltb c columns on) (toBits-time x fx vx) (toBits-time d fd vd) from-start (rw (time-toBits d fd) (lt-ltb 0 (ticks d) lasting)))
+      ∙ rw (time-toBits x fx, time-toBits d fd) (le-leb (ticks x + ticks d) latest end)
+
+-- ---- in order
+
+-- each note may stand first in a chart of so many columns
+unfoldable pub Each : ℕ → List Note → Type 0
+Each c [] = Unit {0}
+Each c (n ∷ ns) = (okNote c 0 n ≡ true) × Each c ns
+
+each-insert : (c : ℕ) (n : Note) (ms : List Note) → okNote c 0 n ≡ true → Each c ms → Each c (insert n ms)
+unfolding Each insert
+each-insert c n [] h e = (h, tt)
+each-insert c n (m ∷ ms) h e =
+    ⊎-elim (λ (t : above (n .start) (m ∷ ms) ≡ true). rw t (h, e)) (λ (t : above (n .start) (m ∷ ms) ≡ false). rw t (e .0, each-insert c n ms h (e .1)))
+    (either-way (above (n .start) (m ∷ ms)))
+
+each-arranged : (c : ℕ) (ms ns : List Note) → Each c ms → Each c ns → Each c (arranged ms ns)
+unfolding Each arranged
+each-arranged c ms [] em e = em
+each-arranged c ms (n ∷ ns) em e = each-arranged c (insert n ms) ns (each-insert c n ms (e .0) em) (e .1)
+
+-- a note that may stand first may stand after any note that does not start after it
+note-after : (c l : ℕ) (n : Note) → okNote c 0 n ≡ true → l ≤ n .start → okNote c l n ≡ true
+unfolding okNote noteTests
+note-after c l n h k =
+    let p = passes (noteTests c 0 n) h in
+    let fits : n .start < _ = note-fits c 0 n h .0 in
+    sym (note-decided c l n (p 0) (p 1) (p 2) (ticks-leb l (n .start) (omega arith) fits ∙ le-leb l (n .start) k) (p 4)) ∙ p 5
+
+each-rising : (c l : ℕ) (ns : List Note) → Rising l ns → Each c ns → okNotes c l ns ≡ true
+unfolding Rising Each okNotes
+each-rising c l [] r e = refl
+each-rising c l (n ∷ ns) r e = rw (note-after c l n (e .0) (r .0)) (each-rising c (n .start) ns (r .1) (e .1))
+
+pub written-read : (c d : ℕ) (ns : List Note) → 1 ≤ c → c ≤ 9 → d < 2 ^ 32 → length ns < 2 ^ 24 → Each c ns
+    → decode (encode c d (arranged [] ns)) ≡ some (record { columns = c; draws = d; notes = arranged [] ns })
+unfolding Each
+written-read c d ns low high fd fn e =
+    decode-encode c d (arranged [] ns)
+    (record {
+      some-columns = low;
+      few-columns = high;
+      draws-fit = fd;
+      notes-fit = rw (length-arranged [] ns, zero-add (length ns)) fn;
+      notes-ok = each-rising c 0 (arranged [] ns) (sorted ns) (each-arranged c [] ns tt e);
+    })

@@ -1,0 +1,42 @@
+// A note in its 17 bytes.
+use crate::Note;
+use crate::bytes::get;
+use crate::bytes::put;
+ghost use mathlib.Core.Path.{_≡_};
+ghost use mathlib.Core.Bool.{cond};
+ghost use Prim.Native.Nat.{_+_, _*_, _≤_, _<_};
+ghost use lib.ListN.{length, drop};
+ghost use Rattle.chart.specs.Bytes.{splice};
+ghost use Rattle.chart.specs.Chart.{noteOf, noteBytes};
+
+// The note in the 17 bytes from `at`.
+pub fn note_at(s: &[u8], at: usize) -> Note
+    requires { ⌜ at + 17 ≤ length (now s) ⌝ }
+    ensures { λ r. ⌜ r ≡ noteOf (drop at (now (s .entry))) ⌝ }
+{
+    let first = s[at];
+    Note {
+        column: first / 16,
+        hold: first % 16 >= 8,
+        start: get(s, at + 1, 8),
+        duration: get(s, at + 9, 8),
+    }
+}
+
+// A note's first byte.
+fn head(column: u8, hold: bool) -> u8
+    requires { ⌜ column < 16 ⌝ }
+    ensures { λ r. ⌜ r ≡ column * 16 + cond hold 8 0 ⌝ }
+{
+    if hold { column * 16 + 8 } else { column * 16 }
+}
+
+// Stores a note in the 17 bytes from `at`. All other bytes keep their values.
+pub fn put_note(s: &mut [u8], at: usize, n: Note)
+    requires { ⌜ (n .column < 16) × (at + 17 ≤ length (now s)) ⌝ }
+    ensures { λ _. ⌜ now (s .exit) ≡ splice (now (s .entry)) at (noteBytes n) ⌝ }
+{
+    s[at] = head(n.column, n.hold);
+    put(s, at + 1, 8, n.start);
+    put(s, at + 9, 8, n.duration);
+}

@@ -1,0 +1,22 @@
+-- Worked examples, computed. Assumes nothing.
+use mathlib.Core.Path.{_≡_, refl}
+use mathlib.Core.Bool.{true}
+use mathlib.Core.List.{List, [], _∷_, _++_}
+use Rattle.chart.specs.declared.Note.{Note}
+use Rattle.chart_text.specs.Text.{ascii, digit, digits, places, decimal, hex, named, withHex, headLine, noteLine, noteLines, refusalLine, chartText}
+
+-- document 01's row: one hold in column 1 at 1000 for 300, after one draw
+hold : Note
+hold = record { column = 1; hold = true; start = 0x408f_4000_0000_0000; duration = 0x4072_c000_0000_0000 }
+
+one-hold : chartText (record { columns = 9; draws = 1; notes = hold ∷ [] }) ≡ ascii "columns 9 notes 1 draws 1\n1 H 408F400000000000 4072C00000000000\n"
+unfolding hold chartText headLine noteLines noteLine named withHex decimal hex places digits digit ascii
+one-hold = refl
+
+refusal : refusalLine 12 104 4294967295 ≡ ascii "refused 12 object 104 draws 4294967295\n"
+unfolding refusalLine named decimal places digits digit ascii
+refusal = refl
+
+zero : decimal 0 ≡ ascii "0"
+unfolding decimal places digits digit ascii
+zero = refl

@@ -1,0 +1,40 @@
+// Reads a job record from standard input, converts it, and prints its chart as text (document 01, bench table).
+use convert::JobEnd;
+use convert::convert;
+ghost use Prim.Native.Nat.{_+_, _*_, _≤_};
+ghost use lib.ListN.{length};
+ghost use Rattle.io.specs.Counts.{Counts};
+
+const ALLOWANCE: u32 = 1_000_000;
+
+// Stores the text of how the record's job ends from the start of `text`, and gives its length. The chart is made in `chart`.
+fn answer(record: &[u8], chart: &mut [u8], text: &mut [u8]) -> usize
+    requires { ⌜ 3 * length (now chart) + 64 ≤ length (now text) ⌝ }
+    ensures { λ r. ⌜ Counts r (now (text .exit)) ⌝ }
+{
+    match convert(record, chart, ALLOWANCE) {
+        JobEnd::Chart(size) => {
+            if size > chart.len() {
+                return 0;
+            }
+            chart_text::put_chart(&chart[..size], text)
+        }
+        JobEnd::Refused(number, object, draws) => {
+            chart_text::put_refusal_line(text, 0, number as u32, object, draws)
+        }
+    }
+}
+
+fn main() {
+    // one byte more than a record may have, so that a longer input shows
+    let mut input = [0u8; 65537];
+    let size = io::read_full(libc::STDIN_FILENO, &mut input);
+    if size > 65536 {
+        io::write_all(libc::STDOUT_FILENO, b"too long\n");
+        return;
+    }
+    let mut chart = [0u8; 65536];
+    let mut text = [0u8; 196672];
+    let printed = answer(&input[..size], &mut chart, &mut text);
+    io::write_all(libc::STDOUT_FILENO, &text[..printed]);
+}

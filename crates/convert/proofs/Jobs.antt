@@ -1,0 +1,122 @@
+-- A job, from how its walk ended. Assumes nothing.
+use mathlib.Core.Path.{_≡_, refl, sym, ap, ap₂, _∙_, subst}
+use Prim.Native.Nat.{ℕ, _+_, _-_, _*_, _≤_, _<_}
+use native.Mathlib.Nat.{zero-add, sub-self}
+use mathlib.Core.List.{List, [], _++_, map}
+use lib.ListN.{length, drop, length-map}
+use borrow.Author.Tests.{le-ltb, lt-ltb}
+use Rattle.rules.specs.Rule.{ended}
+use Rattle.rules.specs.Rule as Rule
+use Rattle.rules.specs.Refusal.{number}
+use Rattle.random.specs.Generator.{seeded}
+use Rattle.random.specs.Play.{found, refused, play}
+use Rattle.random.specs.declared.Draws.{Draws}
+use Rattle.random.specs.Laws.Allowance.{found-run, refused-run}
+use Rattle.record.specs.Record.{parse, accepted, songOf}
+use Rattle.record.specs.Record as Record
+use Rattle.chart.specs.declared.Note as Patterns
+use Rattle.chart.specs.Bytes.{splice}
+use Rattle.chart.specs.Chart.{notesOf}
+use Rattle.chart.specs.Chart as Bytes
+use Rattle.chart.specs.Order as Order
+use Rattle.chart.specs.Laws.Notes.{length-encode}
+use Rattle.chart.specs.Laws.Arranged.{length-arranged, finished}
+use Rattle.model.specs.Song.{Song}
+use Rattle.mania.specs.declared.Note.{Note}
+use Rattle.mania.specs.Chart.{body, patternOf, arranged, inWalkOrder, encode, written}
+use Rattle.mania.specs.Convert.{seed, columnsOf, convert, walk}
+use Rattle.mania.specs.Job.{Job, ending, refusing, under}
+use Rattle.mania.specs.Job as OfSong
+use Rattle.mania.specs.Walked.{Stop, stop, spentAt, refusedAt, onWalk}
+use Rattle.mania.specs.Laws.Walks.{job-made, job-stopped}
+use Rattle.job.specs.Job.{jobOf, job}
+use Rattle.job.proofs.Read.{in-order, fits-all}
+use Rattle.convert.specs.declared.JobEnd.the-variants as J
+use Rattle.convert.specs.Ends.{jobEnd, songRule, Written}
+
+-- a refusal leaves nothing of the buffer but its length
+pub only-length : (n i d : ℕ) (b c : List ℕ) → length b ≡ length c → refusing n i d b ≡ refusing n i d c
+unfolding refusing
+only-length n i d b c e = rw e
+
+-- a refused record
+pub refused-job : (bytes buffer : List ℕ) (a n : ℕ) → parse bytes ≡ Record.refused n → refusing n 0 0 buffer ≡ job bytes buffer a
+unfolding job jobOf
+refused-job bytes buffer a n e = sym (ap (λ p. jobOf p buffer a) e)
+
+module _ (bytes buffer : List ℕ) (a : ℕ) (parsed : parse bytes ≡ accepted (songOf bytes)) where
+  abbrev S : Song
+  S = songOf bytes
+
+  abbrev start : Draws
+  start = record { random = seeded (seed (S .settings)); left = a }
+
+  job-is : job bytes buffer a ≡ OfSong.job S buffer a
+  unfolding job jobOf
+  job-is = ap (λ p. jobOf p buffer a) parsed
+
+  -- with eight bytes there is a walk
+  walked : 8 ≤ length buffer → onWalk (convert S (length buffer)) start ≡ songRule bytes (length buffer) start
+  unfolding convert
+  walked h = rw (le-ltb (length buffer) 8 h)
+
+  pub short : length buffer < 8 → refusing 11 0 0 buffer ≡ job bytes buffer a
+  unfolding convert play
+  short h =
+      let none : onWalk (convert S (length buffer)) start ≡ refused (stop 0 11) start = rw (lt-ltb (length buffer) 8 h) in
+      ap (λ (n : ℕ). refusing 11 0 n buffer) (sym (sub-self a)) ∙ sym (job-is ∙ job-stopped S buffer a (stop 0 11) start none)
+
+  pub stopped-job : 8 ≤ length buffer → (n i : ℕ) (e : Draws) → songRule bytes (length buffer) start ≡ refused (stop i n) e → refusing n i (a - e .left) buffer ≡ job bytes buffer a
+  stopped-job h n i e k = sym (job-is ∙ job-stopped S buffer a (stop i n) e (walked h ∙ k))
+
+  pub found-left : (room : ℕ) (nss : List (List Note)) (e : Draws) → songRule bytes room start ≡ found nss e → e .left ≤ a
+  found-left room nss e k = found-run spentAt refusedAt _ start nss e k .1
+
+  pub refused-left : (room : ℕ) (x : Stop) (e : Draws) → songRule bytes room start ≡ refused x e → e .left ≤ a
+  refused-left room x e k = refused-run spentAt refusedAt _ start {B = Unit {0}} (λ o. tt) (λ y n. tt) (λ p n. refl) (λ r n. refl) x e k .1
+
+  module _ (h : 8 ≤ length buffer) (exit : List ℕ) (notes : ℕ) (e : Draws) (w : Written bytes buffer exit start notes e) where
+    abbrev ns : List Note
+    ns = inWalkOrder (w .nss)
+
+    abbrev ps : List Patterns.Note
+    ps = map patternOf ns
+
+    abbrev n : ℕ
+    n = a - e .left
+
+    ends : under S buffer a ≡ ended (w .nss) n
+    unfolding under
+    ends = found-run spentAt refusedAt (convert S (length buffer)) start (w .nss) e (walked h ∙ w .says) .0
+
+    made : OfSong.job S buffer a ≡ ending (columnsOf S) buffer (ended (w .nss) n)
+    made = job-made S buffer a (w .nss) e (walked h ∙ w .says)
+
+    bytes-are : encode (columnsOf S) n (arranged [] ns) ≡ Bytes.encode (columnsOf S) n (Order.arranged [] ps)
+    unfolding encode
+    bytes-are = ap (Bytes.encode (columnsOf S) n) (in-order bytes buffer S parsed a n (w .nss) ends)
+
+    counted : length ps ≡ notes
+    counted = length-map ns patternOf ∙ sym (w .number)
+
+    long : length (encode (columnsOf S) n (arranged [] ns)) ≡ 8 + 17 * notes
+    long =
+        ap length bytes-are ∙ length-encode (columnsOf S) n (Order.arranged [] ps)
+        ∙ ap (λ (k : ℕ). 8 + 17 * k) (length-arranged [] ps ∙ zero-add (length ps) ∙ counted)
+
+    at-front : (v : List ℕ) → splice buffer 0 v ≡ written v buffer
+    unfolding splice written
+    at-front v = ap (λ (k : ℕ). v ++ drop k buffer) (zero-add (length v))
+
+    pub made-job : (columns size : ℕ) (last : List ℕ) → columns ≡ columnsOf S → size ≡ 8 + 17 * notes
+        → last ≡ splice exit 0 (Bytes.encode columns n (Order.arranged [] (notesOf notes (drop 8 exit)))) → jobEnd last (J.Chart size) ≡ job bytes buffer a
+    unfolding ending body Bytes.body
+    made-job columns size last c z f =
+        let room : 8 + 17 * length ps ≤ length buffer = subst (λ (k : ℕ). 8 + 17 * k ≤ length buffer) (sym counted) (w .room) in
+        let whole : splice exit 0 (Bytes.encode columns n (Order.arranged [] (notesOf notes (drop 8 exit)))) ≡ written (encode (columnsOf S) n (arranged [] ns)) buffer =
+        ap₂ (λ (k q : ℕ). splice exit 0 (Bytes.encode k n (Order.arranged [] (notesOf q (drop 8 exit))))) c (sym counted)
+        ∙ finished buffer exit (columnsOf S) n ps (w .written) room (fits-all bytes buffer S parsed a n (w .nss) ends)
+        ∙ at-front (Bytes.encode (columnsOf S) n (Order.arranged [] ps))
+        ∙ ap (λ (v : List ℕ). written v buffer) (sym bytes-are) in
+        ap₂ {C = Job} (λ (k : ℕ) (v : List ℕ). record { answer = OfSong.accepted k; chart = v }) (z ∙ sym long) (f ∙ whole)
+        ∙ sym (job-is ∙ made)

@@ -1,0 +1,2 @@
+pub mod Songs
+pub mod Jobs

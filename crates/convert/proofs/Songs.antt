@@ -1,0 +1,113 @@
+-- What the walk takes of a song is the song's. Assumes nothing.
+use mathlib.Core.Path.{_≡_, sym, ap, _∙_, subst}
+use Prim.Native.Nat.{ℕ, suc, _≤_}
+use native.Mathlib.Omega.{arith}
+use mathlib.Core.List.{List, [], _∷_}
+use lib.Ieee.{Float, round}
+use lib.ListN.{length}
+use Rattle.model.specs.declared.Kind.{Kind}
+use Rattle.model.specs.declared.Kind.the-variants.{Circle, Slider, Spinner, Hold}
+use Rattle.model.specs.declared.Object.{Object}
+use Rattle.model.specs.Each.{Each}
+use Rattle.model.specs.Totals.{breakTime, longer, slidersAndSpinners}
+use Rattle.record.specs.declared.Summary.{Summary}
+use Rattle.record.specs.Record.{parse, accepted, songOf}
+use Rattle.record.specs.Fit.{FitObject, FitKind}
+use Rattle.record.specs.Section.{breaks}
+use Rattle.record.specs.Object.{zeroStart, objects}
+use Rattle.record.specs.Laws.Known.{Known}
+use Rattle.record.specs.Laws.Ranges.{fit-song}
+use Rattle.mania.specs.Steps.{double}
+use Rattle.mania.specs.Convert.{columnsOf}
+use Rattle.mania.specs.PatternGenerator.{conversionDifficulty}
+use Rattle.settings.specs.Accepted.{Accepted}
+use Rattle.settings.specs.Counts.{columnsBy, keysOr, difficultyOf}
+use Rattle.settings.specs.Laws.{columns-of, columns-deck, difficulty-of}
+use Rattle.object.specs.Range.{FewRepeats, InRange}
+use Rattle.job.proofs.Ranges as Ranges
+use Rattle.walk.specs.declared.Song.{Song}
+use Rattle.walk.specs.declared.WalkEnd.{WalkEnd}
+use Rattle.walk.specs.declared.WalkEnd.the-variants as E
+use Rattle.walk.specs.Steps.{rule, Walks}
+use Rattle.random.specs.declared.Draws.{Draws}
+use Rattle.mania.specs.Convert.{beginning, walk}
+use Rattle.mania.specs.Walked.{onWalk}
+use Rattle.convert.specs.Ends.{Sings, songRule, Plays}
+
+-- sliders and spinners are among the objects
+one-longer : (k : Kind) (m n : ℕ) → m ≤ n → longer k m ≤ suc n
+unfolding longer
+one-longer Circle m n h = omega arith
+one-longer (Slider repeats distance node) m n h = omega arith
+one-longer (Spinner d) m n h = omega arith
+one-longer (Hold d) m n h = omega arith
+
+pub long-le : (os : List Object) → slidersAndSpinners os ≤ length os
+unfolding slidersAndSpinners
+long-le [] = omega arith
+long-le (o ∷ os) = one-longer (o .kind) (slidersAndSpinners os) (length os) (long-le os)
+
+module _ (bytes : List ℕ) (m : Summary) (k : Known bytes m) where
+  pub columns-are : (c : ℕ) → c ≡ keysOr (m .keys) (columnsBy (m .settings) (m .long) (m .counts .objects)) → (c ≡ columnsOf (songOf bytes)) × (1 ≤ c) × (c ≤ 9)
+  columns-are c e =
+      let s = songOf bytes in
+      let fit = fit-song bytes s (k .parsed) in
+      let f : c ≡ keysOr (s .keys) (columnsBy (s .settings) (slidersAndSpinners (s .objects)) (length (s .objects))) = rw (← (k .keys), ← (k .settings), ← (k .long), ← (k .number)) e in
+      let d = columns-deck (s .keys) (s .settings) (slidersAndSpinners (s .objects)) (length (s .objects)) (fit .keys) in
+      (f ∙ columns-of s, subst (λ (n : ℕ). 1 ≤ n) (sym f) (d .0), subst (λ (n : ℕ). n ≤ 9) (sym f) (d .1))
+
+  pub difficulty-is : (x b : Float) → b ≡ breakTime (double 0 1) (breaks bytes 256 (m .counts .breaks)) → x ≡ difficultyOf (m .settings) b (m .first) (m .last) (m .counts .objects)
+      → x ≡ conversionDifficulty (songOf bytes .settings) (songOf bytes .breaks) (songOf bytes .objects)
+  unfolding zeroStart round
+  difficulty-is x b e f =
+      let s = songOf bytes in
+      f ∙ rw (e, ← (k .breaks), k .settings, k .first, k .last, k .number) (difficulty-of (s .settings) (s .breaks) (s .objects))
+
+  pub settings-accepted : Accepted (m .settings)
+  settings-accepted =
+      let fit = fit-song bytes (songOf bytes) (k .parsed) .settings in
+      subst Accepted (sym (k .settings)) (record { hp = fit .hp .range; cs = fit .cs .range; od = fit .od .range; ar = fit .ar .range })
+
+-- ---- the objects are in the generators' range
+
+few-repeats : (k : Kind) → FitKind k → FewRepeats k
+few-repeats Circle h = tt
+few-repeats (Slider repeats distance node) h = omega (arith, h .0)
+few-repeats (Spinner d) h = tt
+few-repeats (Hold d) h = tt
+
+in-range : (o : Object) → FitObject o → InRange o
+in-range o h =
+    let s = Ranges.fit-object o h .0 in
+    record { start = record { size = s .size; high = s .high }; repeats = few-repeats (o .kind) (h .kind) }
+
+all-in-range : (os : List Object) → Each FitObject os → Each InRange os
+all-in-range [] h = tt
+all-in-range (o ∷ os) h = (in-range o (h .0), all-in-range os (h .1))
+
+pub objects-in-range : (bytes : List ℕ) → parse bytes ≡ accepted (songOf bytes) → Each InRange (songOf bytes .objects)
+objects-in-range bytes e = all-in-range (songOf bytes .objects) (fit-song bytes (songOf bytes) e .objects)
+
+-- ---- the walk over the part is the walk over the song
+
+module _ (bytes part : List ℕ) (m : Summary) (g : Song) (sings : Sings bytes m g) (at count : ℕ) (all : objects part at count ≡ songOf bytes .objects) where
+  same-rule : (room : ℕ) (d : Draws) → rule bytes part g room at count d ≡ songRule bytes room d
+  same-rule room d =
+      ap (λ (x : Float). onWalk (walk (songOf bytes) x (g .columns) room 0 beginning (objects part at count)) d) (sings .difficulty)
+      ∙ ap (λ (c : ℕ). onWalk (walk (songOf bytes) difficulty c room 0 beginning (objects part at count)) d) (sings .columns)
+      ∙ ap (λ (os : List Object). onWalk (walk (songOf bytes) difficulty (columnsOf (songOf bytes)) room 0 beginning os) d) all
+    where
+      difficulty : Float
+      difficulty = conversionDifficulty (songOf bytes .settings) (songOf bytes .breaks) (songOf bytes .objects)
+
+  pub played : (entry exit : List ℕ) (d : Draws) → count ≤ 4095 → (r : WalkEnd) → Walks bytes part entry exit g at count d r → Plays bytes entry exit d r
+  played entry exit d h (E.Made notes e) a =
+      record {
+        nss = a .nss;
+        says = sym (same-rule (length entry) d) ∙ a .says;
+        written = a .written;
+        number = a .number;
+        few = omega (arith, a .few);
+        room = a .room;
+      }
+  played entry exit d h (E.Refused n i e) a = sym (same-rule (length entry) d) ∙ a

@@ -1,0 +1,2 @@
+-- What the answers of the entries mean.
+pub mod Ends

@@ -1,0 +1,2 @@
+-- The density's reading, which the contracts cite.
+pub mod Queued

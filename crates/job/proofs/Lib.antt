@@ -1,0 +1,10 @@
+-- Demand 3 of records (`Demand`), the conditions of their refusals (`Numbers`, `Refusals`), and that a job's chart is read (`Read`), from what
+-- an accepted record says of its song (`Ranges`) and so of its notes (`Sliders`, `Times`). `Rows`: the bench table's job.
+pub mod Numbers
+pub mod Times
+pub mod Ranges
+pub mod Sliders
+pub mod Demand
+pub mod Read
+pub mod Refusals
+pub mod Rows

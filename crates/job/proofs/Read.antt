@@ -1,0 +1,238 @@
+-- The chart of an accepted job is read: each note is one that the chart reader takes. Assumes nothing.
+use mathlib.Core.Path.{_≡_, refl, sym, ap, _∙_, subst}
+use Prim.Native.Nat.{ℕ, zero, suc, _+_, _-_, _*_, _^_, _≤_, _<_}
+use native.Mathlib.Nat.{le-trans, le-refl, lt-of-le-of-lt, lt-of-lt-of-le, zero-add}
+use native.Mathlib.Omega.{arith}
+use mathlib.Core.Bool.{Bool, true, false}
+use mathlib.Core.List.{List, [], _∷_, _++_, map}
+use mathlib.Core.Option.{some}
+use lib.Dec.{T, lit≤}
+use borrow.Author.Tests.{ltb-true}
+use lib.ListN.{length, take, drop, length-append, length-drop}
+use lib.Seq.{take-at}
+use lib.Ieee.{Float, binary64, fits, toBits}
+use Rattle.rules.specs.Rule.{Outcome, ended, run, taken, Done}
+use Rattle.rules.specs.Rule as Rule
+use Rattle.random.specs.Generator.{values, seeded}
+use Rattle.random.specs.Laws.Allowance.{done-le}
+use Rattle.chart.specs.declared.Note as Patterns
+use Rattle.chart.specs.Tests.{passes}
+use Rattle.chart.specs.Time.{isTime}
+use Rattle.chart.specs.Laws.Times.{time-toBits}
+use Rattle.chart.specs.Chart.{decode, okNote, noteTests}
+use Rattle.chart.specs.Chart as Bytes
+use Rattle.chart.specs.Laws.Notes.{length-encode, Fits}
+use Rattle.chart.specs.Laws.Reader.{note-fits}
+use Rattle.chart.specs.Laws.Arranged.{length-arranged}
+use Rattle.chart.specs.Order as Order
+use Rattle.chart.specs.Written as Written
+use Rattle.chart.specs.Written.{written-read}
+use Rattle.mania.specs.declared.Note.{Note}
+use Rattle.model.specs.declared.Object.{Object}
+use Rattle.model.specs.declared.Kind.{Kind}
+use Rattle.model.specs.declared.Kind.the-variants.{Circle, Slider, Spinner, Hold}
+use Rattle.mania.specs.LimitedQueue.{Density}
+use Rattle.mania.specs.Chart.{patternOf, arranged, inWalkOrder, encode, written}
+use Rattle.model.specs.Song.{Song}
+use Rattle.mania.specs.Convert.{AtObject, seed, columnsOf, factsAt, convert}
+use Rattle.mania.specs.Job.{Job, ending, refusing, under}
+use Rattle.mania.specs.Job as OfSong
+use Rattle.mania.specs.Demand.{Each}
+use Rattle.mania.specs.Demand as Draws
+use Rattle.mania.proofs.Demand.{Fine, Sound, Notes, ended-notes, some-columns, few-columns}
+use Rattle.mania.proofs.Counts.{Short, ended-few, ended-room}
+use Rattle.mania.proofs.Order.{Times, arranged-patterns}
+use Rattle.record.specs.Record.{Parsed, refused, accepted, parse}
+use Rattle.job.specs.Job.{jobOf, job, columnsIn, columns, drawsOf, draws, notesIn, notesOf, notes}
+use Rattle.job.specs.Read.{chartNotes, Reads}
+use Rattle.job.proofs.Numbers.{accepted-keys}
+use Rattle.job.proofs.Demand.{refuses, accepted-ended}
+use Rattle.job.proofs.Times.{Span, Okay, circle-notes, end-notes, bar-notes}
+use Rattle.job.proofs.Ranges.{FitKind, FitObject, FitSong, fit-song}
+use Rattle.job.proofs.Sliders.{beat-at, velocity-at, not-before}
+
+-- ---- the notes that can come from the objects of an accepted record
+
+kind-fine : (columns : ℕ) (s : Song) (difficulty : Float) (d : Density) (o : Object) (k : Kind) → FitSong s → Span 16777215 (o .start) → FitKind k
+    → Fine (Okay columns) (factsAt s difficulty d o) columns o k
+unfolding factsAt
+kind-fine columns s difficulty d o Circle fit h g = circle-notes columns (o .start) h
+kind-fine columns s difficulty d o (Slider repeats distance node) fit h g =
+    let later = not-before (factsAt s difficulty d o) o (repeats + 1) distance (spans repeats (g .0)) (g .1) (velocity-at (s .difficultyPoints) (o .start) (fit .velocities))
+    (beat-at (s .timingPoints) (o .start) (fit .beats)) (fit .multiplier) in (
+      λ c t e on l m late. bar-notes columns c t e on l (le-trans m late),
+      λ c on late. bar-notes columns c _ _ on later late,
+      λ c on late. bar-notes columns c _ _ on (le-refl _) (le-trans later late),
+    )
+  where
+    spans : (n : ℕ) → n ≤ 1023 → n + 1 ≤ 1024
+    spans n h = omega arith
+kind-fine columns s difficulty d o (Spinner duration) fit h g = end-notes columns o duration h g
+kind-fine columns s difficulty d o (Hold duration) fit h g = end-notes columns o duration h g
+
+objects-fine : (columns : ℕ) (s : Song) (difficulty : Float) → FitSong s → (os : List Object) → Each FitObject os
+    → Each (λ o. (d : Density) → Fine (Okay columns) (factsAt s difficulty d o) columns o (o .kind)) os
+objects-fine columns s difficulty fit [] h = tt
+objects-fine columns s difficulty fit (o ∷ os) h =
+    (λ d. kind-fine columns s difficulty d o (o .kind) fit (h .0 .0) (h .0 .1), objects-fine columns s difficulty fit os (h .1))
+
+-- ---- from the notes of each object to those of the chart
+
+each-append : {A : Type 0} (P : A → Type 0) (xs ys : List A) → Each P xs → Each P ys → Each P (xs ++ ys)
+each-append P [] ys h k = k
+each-append P (x ∷ xs) ys h k = (h .0, each-append P xs ys (h .1) k)
+
+walk-each : (P : Note → Type 0) (nss : List (List Note)) → Each (Sound P) nss → Each P (inWalkOrder nss)
+unfolding inWalkOrder
+walk-each P [] h = tt
+walk-each P (ns ∷ nss) h = each-append P ns (inWalkOrder nss) (h .0 .1) (walk-each P nss (h .1))
+
+okay-time : (columns : ℕ) (n : Note) → Okay columns n → T (fits binary64 (n .start)) × (isTime (n .start) ≡ true)
+unfolding okNote noteTests patternOf
+okay-time columns n h = (h .exact, sym (ap isTime (time-toBits (n .start) (h .exact))) ∙ passes (noteTests columns 0 (patternOf n)) (h .taken) 1)
+
+okay-times : (columns : ℕ) (ns : List Note) → Each (Okay columns) ns → Times ns
+okay-times columns [] h = tt
+okay-times columns (n ∷ ns) h = (okay-time columns n (h .0), okay-times columns ns (h .1))
+
+okay-written : (columns : ℕ) (ns : List Note) → Each (Okay columns) ns → Written.Each columns (map patternOf ns)
+unfolding Written.Each
+okay-written columns [] h = tt
+okay-written columns (n ∷ ns) h = (h .0 .taken, okay-written columns ns (h .1))
+
+okay-fits : (columns : ℕ) → columns ≤ 9 → (ns : List Note) → Each (Okay columns) ns → Fits (map patternOf ns)
+unfolding Fits okNote noteTests
+okay-fits columns c [] h = tt
+okay-fits columns c (n ∷ ns) h =
+    let f = note-fits columns 0 (patternOf n) (h .0 .taken) in (
+      record {
+        column = omega (arith, ltb-true (patternOf n .column) columns (passes (noteTests columns 0 (patternOf n)) (h .0 .taken) 0));
+        start = lt-of-lt-of-le (f .0) (lit≤ tt);
+        duration = lt-of-lt-of-le (f .1) (lit≤ tt);
+      },
+      okay-fits columns c ns (h .1),
+    )
+
+length-patterns : (ns : List Note) → length (map patternOf ns) ≡ length ns
+length-patterns [] = refl
+length-patterns (n ∷ ns) = ap suc (length-patterns ns)
+
+kind-short : (k : Kind) → FitKind k → Short k
+kind-short Circle h = tt
+kind-short (Slider repeats distance node) h = h .0
+kind-short (Spinner d) h = tt
+kind-short (Hold d) h = tt
+
+objects-short : (os : List Object) → Each FitObject os → Each (λ o. Short (o .kind)) os
+objects-short [] h = tt
+objects-short (o ∷ os) h = (kind-short (o .kind) (h .0 .1), objects-short os (h .1))
+
+module _ (s buffer : List ℕ) (r : Song) (e : parse s ≡ accepted r) (a n : ℕ) (nss : List (List Note)) (u : under r buffer a ≡ ended nss n) where
+  pub okay-all : Each (Okay (columnsOf r)) (inWalkOrder nss)
+  okay-all =
+      let fit = fit-song s r e in
+      walk-each _ nss (ended-notes (Okay (columnsOf r)) r buffer (objects-fine (columnsOf r) r _ fit (r .objects) (fit .objects)) a n nss u)
+
+  -- the order by floats is the order by patterns
+  pub in-order : map patternOf (arranged [] (inWalkOrder nss)) ≡ Order.arranged [] (map patternOf (inWalkOrder nss))
+  unfolding Order.Rising
+  in-order = arranged-patterns [] (inWalkOrder nss) tt (okay-times (columnsOf r) (inWalkOrder nss) okay-all) tt
+
+  -- the notes fit the fields of a chart
+  pub fits-all : Fits (map patternOf (inWalkOrder nss))
+  fits-all = okay-fits (columnsOf r) (few-columns r (accepted-keys s r e)) (inWalkOrder nss) okay-all
+
+  drawn : n ≤ a
+  unfolding under taken
+  drawn =
+      let m = convert r (length buffer) in
+      let st = seeded (seed (r .settings)) in
+      let d : Done (run m (values a st)) = subst Done (sym u) tt in
+      subst (λ (o : Outcome ℕ AtObject (List (List Note))). taken o ≤ a) u (done-le m st a d)
+
+  few-all : length (inWalkOrder nss) < 2 ^ 24
+  few-all =
+      let fit = fit-song s r e in
+      below (length (inWalkOrder nss)) (length (r .objects))
+      (ended-few r buffer (few-columns r (accepted-keys s r e)) (objects-short (r .objects) (fit .objects)) a n nss u) (fit .few)
+    where
+      below : (k n : ℕ) → k ≤ 2050 * n → n ≤ 4095 → k < 2 ^ 24
+      below k n h l = omega arith
+
+  module _ (small : a < 2 ^ 32) where
+    pub read-back : decode (Bytes.encode (columnsOf r) n (Order.arranged [] (map patternOf (inWalkOrder nss))))
+        ≡ some (record { columns = columnsOf r; draws = n; notes = Order.arranged [] (map patternOf (inWalkOrder nss)) })
+    read-back =
+        written-read (columnsOf r) n (map patternOf (inWalkOrder nss)) (some-columns r) (few-columns r (accepted-keys s r e))
+        (lt-of-le-of-lt drawn small) (rw (length-patterns (inWalkOrder nss)) few-all) (okay-written (columnsOf r) (inWalkOrder nss) okay-all)
+
+-- ---- the job
+
+chart-of : (c : ℕ) (buffer : List ℕ) (o : Outcome ℕ AtObject (List (List Note))) (n : ℕ) → ending c buffer o .answer ≡ OfSong.accepted n
+    → (ending c buffer o .chart ≡ written (encode c (taken o) (arranged [] (inWalkOrder (notesIn o)))) buffer) × (n ≡ length (encode c (taken o) (arranged [] (inWalkOrder (notesIn o)))))
+unfolding ending refusing taken notesIn
+chart-of c buffer (ended nss m) n e = (refl, sym (ap told e))
+  where
+    told : OfSong.Answer → ℕ
+    told (OfSong.accepted n) = n
+    told (OfSong.refusal r i n) = 0
+chart-of c buffer (Rule.refused q m) n e = let z : _≡_ {A = ℕ} 1 0 = ap refuses e in absurd (omega arith)
+chart-of c buffer (Rule.spent q m) n e = let z : _≡_ {A = ℕ} 1 0 = ap refuses e in absurd (omega arith)
+
+take-written : (bytes buffer : List ℕ) → take (length bytes) (written bytes buffer) ≡ bytes
+unfolding written
+take-written bytes buffer = take-at bytes (drop (length bytes) buffer) (length bytes) refl
+
+length-written : (bytes buffer : List ℕ) → length bytes ≤ length buffer → length (written bytes buffer) ≡ length buffer
+unfolding written
+length-written bytes buffer h = length-append bytes (drop (length bytes) buffer) ∙ ap (λ (k : ℕ). length bytes + k) (length-drop (length bytes) buffer) ∙ rest (length bytes) (length buffer) h
+  where
+    rest : (a b : ℕ) → a ≤ b → a + (b - a) ≡ b
+    rest a b h = omega arith
+
+-- of what was parsed
+record ReadsOf (c d : ℕ) (nss : List (List Note)) (buffer : List ℕ) (a n : ℕ) : Type 0 where
+  long : n ≡ length (Bytes.encode c d (Order.arranged [] (map patternOf (inWalkOrder nss))))
+  room : length (Bytes.encode c d (Order.arranged [] (map patternOf (inWalkOrder nss)))) ≤ length buffer
+  read : a < 2 ^ 32 → decode (Bytes.encode c d (Order.arranged [] (map patternOf (inWalkOrder nss))))
+      ≡ some (record { columns = c; draws = d; notes = Order.arranged [] (map patternOf (inWalkOrder nss)) })
+
+reads-of : (s buffer : List ℕ) (p : Parsed) → parse s ≡ p → (a n : ℕ) → jobOf p buffer a .answer ≡ OfSong.accepted n
+    → (jobOf p buffer a .chart ≡ written (Bytes.encode (columnsIn p) (drawsOf p buffer a) (Order.arranged [] (map patternOf (inWalkOrder (notesOf p buffer a))))) buffer)
+    × ReadsOf (columnsIn p) (drawsOf p buffer a) (notesOf p buffer a) buffer a n
+unfolding jobOf columnsIn drawsOf notesOf encode refusing OfSong.job Draws.draws
+reads-of s buffer (refused m) e a n h = let z : _≡_ {A = ℕ} 1 0 = ap refuses h in absurd (omega arith)
+reads-of s buffer (accepted r) e a n h =
+    let c = columnsOf r in
+    let o = under r buffer a in
+    let u : o ≡ ended (notesIn o) (taken o) = accepted-ended c buffer o n h in
+    let k = chart-of c buffer o n h in
+    let order = in-order s buffer r e a (taken o) (notesIn o) u in (
+      k .0 ∙ ap (λ (ns : List Patterns.Note). written (Bytes.encode c (taken o) ns) buffer) order,
+      record {
+        long = k .1 ∙ ap (λ (ns : List Patterns.Note). length (Bytes.encode c (taken o) ns)) order;
+        room =
+            let ns = map patternOf (inWalkOrder (notesIn o)) in
+            rw (length-encode c (taken o) (Order.arranged [] ns), length-arranged [] ns, zero-add (length ns), length-patterns (inWalkOrder (notesIn o)))
+            (ended-room r buffer a (taken o) (notesIn o) u);
+        read = λ small. read-back s buffer r e a (taken o) (notesIn o) u small;
+      },
+    )
+
+pub reads : (s buffer : List ℕ) → Reads s buffer
+unfolding job columns draws notes chartNotes
+reads s buffer =
+    record {
+      chart = λ a n h. reads-of s buffer (parse s) refl a n h .0;
+      long = λ a n h. reads-of s buffer (parse s) refl a n h .1 .long;
+      room = λ a n h.
+          let k = reads-of s buffer (parse s) refl a n h in
+          let b : List ℕ = Bytes.encode (columns s) (draws s buffer a) (chartNotes s buffer a) in
+          (subst (λ (i : ℕ). i ≤ length buffer) (sym (k .1 .long)) (k .1 .room), ap length (k .0) ∙ length-written b buffer (k .1 .room));
+      read = λ a n small h.
+          let k = reads-of s buffer (parse s) refl a n h in
+          let b : List ℕ = Bytes.encode (columns s) (draws s buffer a) (chartNotes s buffer a) in
+          let taken-is : take n (job s buffer a .chart) ≡ b =
+          ap (λ (i : ℕ). take i (job s buffer a .chart)) (k .1 .long) ∙ ap (take (length b)) (k .0) ∙ take-written b buffer in
+          ap decode taken-is ∙ k .1 .read small;
+    }

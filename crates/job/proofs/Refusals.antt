@@ -1,0 +1,162 @@
+-- What is true where a job is refused. Assumes nothing.
+use mathlib.Core.Path.{_≡_, refl, sym, ap, _∙_, subst}
+use Prim.Native.Nat.{ℕ, _+_, _≤_}
+use native.Mathlib.Nat.{zero-add}
+use native.Mathlib.Omega.{arith}
+use mathlib.Core.List.{List}
+use lib.ListN.{length, replicate}
+use Rattle.rules.specs.Rule.{Outcome, ended, spent}
+use Rattle.rules.specs.Rule as Rule
+use Rattle.rules.specs.Refusal.{Refusal, lateEnd, noColumn, offDeck, tooShort}
+use Rattle.rules.specs.Refusal as Refusal
+use Rattle.random.specs.Generator.{seeded}
+use Rattle.random.specs.Laws.Allowance.{lawful}
+use Rattle.model.specs.Song.{Song}
+use Rattle.mania.specs.declared.Note.{Note}
+use Rattle.mania.specs.Convert.{AtObject, at, seed, columnsOf, convert}
+use Rattle.mania.specs.Refusals.{LateAt, KindAt, IsCircle, NoCircle, InWalk}
+use Rattle.mania.specs.Job.{Answer, refusal, ending, refusing, under}
+use Rattle.mania.specs.Job as OfSong
+use Rattle.mania.proofs.Eleven.{job-eleven}
+use Rattle.mania.proofs.Meets.{refused-meets}
+use Rattle.mania.proofs.Conditions.{convert-ends}
+use Rattle.mania.proofs.Demand.{few-columns}
+use Rattle.record.specs.Record.{Parsed, refused, accepted, parse}
+use Rattle.job.specs.Job.{jobOf, job, columnsIn, columns}
+use Rattle.job.specs.Refusals.{Condition, Refusals}
+use Rattle.job.proofs.Numbers.{accepted-none, refused-none, refused-number}
+use Rattle.job.proofs.Numbers.{accepted-keys}
+use Rattle.job.proofs.Demand.{refuses, number, index, count}
+
+-- the numbers of the refusals of a walk
+numbered : (r : Refusal) → (8 ≤ Refusal.number r) × (Refusal.number r ≤ 11)
+numbered lateEnd = (omega arith, omega arith)
+numbered noColumn = (omega arith, omega arith)
+numbered offDeck = (omega arith, omega arith)
+numbered tooShort = (omega arith, omega arith)
+
+is-late : (r : Refusal) → Refusal.number r ≡ 8 → r ≡ lateEnd
+is-late lateEnd e = refl
+is-late noColumn e = absurd (omega arith)
+is-late offDeck e = absurd (omega arith)
+is-late tooShort e = absurd (omega arith)
+
+is-blocked : (r : Refusal) → Refusal.number r ≡ 9 → r ≡ noColumn
+is-blocked lateEnd e = absurd (omega arith)
+is-blocked noColumn e = refl
+is-blocked offDeck e = absurd (omega arith)
+is-blocked tooShort e = absurd (omega arith)
+
+is-off : (r : Refusal) → Refusal.number r ≡ 10 → r ≡ offDeck
+is-off lateEnd e = absurd (omega arith)
+is-off noColumn e = absurd (omega arith)
+is-off offDeck e = refl
+is-off tooShort e = absurd (omega arith)
+
+is-short : (r : Refusal) → Refusal.number r ≡ 11 → r ≡ tooShort
+is-short lateEnd e = absurd (omega arith)
+is-short noColumn e = absurd (omega arith)
+is-short offDeck e = absurd (omega arith)
+is-short tooShort e = refl
+
+-- an answer that refuses zeroes the buffer
+zeroed-of : (c : ℕ) (buffer : List ℕ) (o : Outcome ℕ AtObject (List (List Note))) (r i n : ℕ) → ending c buffer o .answer ≡ refusal r i n → ending c buffer o .chart ≡ replicate (length buffer) 0
+unfolding ending refusing
+zeroed-of c buffer (ended nss m) r i n e = let z : _≡_ {A = ℕ} 0 1 = ap refuses e in absurd (omega arith)
+zeroed-of c buffer (Rule.refused q m) r i n e = refl
+zeroed-of c buffer (spent q m) r i n e = refl
+
+-- a refused outcome, from its answer
+outcome : (x : AtObject) (m r i n : ℕ) → refusal (Refusal.number (x .refusal)) (x .object) m ≡ refusal r i n → r ≡ 11
+    → _≡_ {A = Outcome ℕ AtObject (List (List Note))} (Rule.refused x m) (Rule.refused (at i tooShort) n)
+outcome x m r i n e k =
+    ap (λ (y : Refusal). Rule.refused (at (x .object) y) m) (is-short (x .refusal) (ap number e ∙ k))
+    ∙ ap (λ (y : ℕ). Rule.refused (at y tooShort) m) (ap index e)
+    ∙ ap (λ (y : ℕ). Rule.refused (at i tooShort) y) (ap count e)
+
+module _ (bytes buffer : List ℕ) (s : Song) (p : parse bytes ≡ accepted s) (a r i n : ℕ) where
+  -- an index from 0 on
+  index-of : (P : ℕ → Type 0) (x k : ℕ) → x ≡ 0 + k → x ≡ i → P k → P i
+  index-of P x k e j h = subst P (sym (zero-add k) ∙ sym e ∙ j) h
+
+  columns-are : columns bytes ≡ columnsOf s
+  unfolding columns columnsIn
+  columns-are = ap columnsIn p
+
+  by-outcome : (o : Outcome ℕ AtObject (List (List Note))) → under s buffer a ≡ o → ending (columnsOf s) buffer o .answer ≡ refusal r i n → Condition bytes buffer a r i n
+  unfolding ending refusing under
+  by-outcome (ended nss m) u e = let z : _≡_ {A = ℕ} 0 1 = ap refuses e in absurd (omega arith)
+  by-outcome (Rule.refused x m) u e =
+      let is : Refusal.number (x .refusal) ≡ r = ap number e in
+      let in-table = numbered (x .refusal) in
+      let at-object : InWalk s (columnsOf s) 0 (s .objects) x = refused-meets (convert s (length buffer)) (convert-ends s (length buffer) (few-columns s (accepted-keys bytes s p))) a (seeded (seed (s .settings))) x m u in
+      record {
+        from = omega (arith, in-table .0);
+        to = omega (arith, in-table .1);
+        unread = λ h. absurd (omega (arith, in-table .0));
+        whole = λ h. accepted-none bytes s p;
+        late = λ h. let k = at-object .late (is-late (x .refusal) (is ∙ h)) in (s, p, index-of (LateAt s (s .objects)) (x .object) (k .0) (k .1) (ap index e) (k .2));
+        blocked = λ h.
+            let k = at-object .blocked (is-blocked (x .refusal) (is ∙ h)) in
+            (columns-are ∙ k .0, (s, p, index-of (KindAt NoCircle (s .objects)) (x .object) (k .1 .0) (k .1 .1) (ap index e) (k .1 .2)));
+        below = λ h.
+            let k = at-object .below (is-off (x .refusal) (is ∙ h)) in
+            (columns-are ∙ k .0, (s, p, index-of (KindAt IsCircle (s .objects)) (x .object) (k .1 .0) (k .1 .1) (ap index e) (k .1 .2)));
+        short = λ h. (s, p, job-eleven s (few-columns s (accepted-keys bytes s p)) buffer a i n (u ∙ outcome x m r i n e h));
+        drawn = λ h. absurd (omega (arith, in-table .1));
+      }
+  by-outcome (spent x m) u e =
+      let is : 12 ≡ r = ap number e in
+      let w : m ≡ a = lawful (convert s (length buffer)) (seeded (seed (s .settings))) .whole a x m u in
+      record {
+        from = omega arith;
+        to = omega arith;
+        unread = λ h. absurd (omega arith);
+        whole = λ h. accepted-none bytes s p;
+        late = λ h. absurd (omega arith);
+        blocked = λ h. absurd (omega arith);
+        below = λ h. absurd (omega arith);
+        short = λ h. absurd (omega arith);
+        drawn = λ k. (sym (ap count e) ∙ w, (s, p, u ∙ ap (λ (j : ℕ). spent j m) (ap index e) ∙ ap (λ (j : ℕ). spent i j) w));
+      }
+
+of-parsed : (bytes buffer : List ℕ) (p : Parsed) → parse bytes ≡ p → (a r i n : ℕ) → jobOf p buffer a .answer ≡ refusal r i n
+    → Condition bytes buffer a r i n
+unfolding jobOf refusing OfSong.job
+of-parsed bytes buffer (refused m) p a r i n e =
+    let is : m ≡ r = ap number e in
+    let small = refused-number bytes m p in
+    record {
+      from = omega (arith, small .0);
+      to = omega (arith, small .1);
+      unread = λ k. (refused-none bytes m p ∙ is, sym (ap index e), sym (ap count e));
+      whole = λ k. absurd (omega (arith, small .1));
+      late = λ k. absurd (omega (arith, small .1));
+      blocked = λ k. absurd (omega (arith, small .1));
+      below = λ k. absurd (omega (arith, small .1));
+      short = λ k. absurd (omega (arith, small .1));
+      drawn = λ k. absurd (omega (arith, small .1));
+    }
+of-parsed bytes buffer (accepted s) p a r i n e = by-outcome bytes buffer s p a r i n (under s buffer a) refl e
+
+zeroed-by : (p : Parsed) (buffer : List ℕ) (a r i n : ℕ) → jobOf p buffer a .answer ≡ refusal r i n → jobOf p buffer a .chart ≡ replicate (length buffer) 0
+unfolding jobOf refusing OfSong.job
+zeroed-by (refused m) buffer a r i n e = refl
+zeroed-by (accepted s) buffer a r i n e = zeroed-of (columnsOf s) buffer (under s buffer a) r i n e
+
+refused-by : (bytes buffer : List ℕ) (a r i n : ℕ) → job bytes buffer a .answer ≡ refusal r i n → Condition bytes buffer a r i n
+unfolding job
+refused-by bytes buffer a r i n e = of-parsed bytes buffer (parse bytes) refl a r i n e
+
+accepted-else : (bytes buffer : List ℕ) (a : ℕ) (x : Answer) → job bytes buffer a .answer ≡ x → ((r i n : ℕ) → Condition bytes buffer a r i n → ⊥) → (n : ℕ) × (x ≡ OfSong.accepted n)
+accepted-else bytes buffer a (OfSong.accepted n) e h = (n, refl)
+accepted-else bytes buffer a (refusal r i n) e h = absurd (h r i n (refused-by bytes buffer a r i n e))
+
+pub refusals : (bytes buffer : List ℕ) → Refusals bytes buffer
+unfolding job
+refusals bytes buffer =
+    record {
+      holds = refused-by bytes buffer;
+      zeroed = λ a r i n e. zeroed-by (parse bytes) buffer a r i n e;
+      else = λ a h. accepted-else bytes buffer a (job bytes buffer a .answer) refl h;
+    }

@@ -1,0 +1,42 @@
+-- What is true where a job is refused, number by number. Assumes nothing.
+use mathlib.Core.Path.{_≡_}
+use mathlib.Core.Logic.{_⊎_}
+use Prim.Native.Nat.{ℕ, _≤_, _<_}
+use mathlib.Core.List.{List}
+use lib.ListN.{length, replicate}
+use Rattle.rules.specs.Rule.{spent}
+use Rattle.model.specs.Song.{Song}
+use Rattle.mania.specs.Refusals.{LateAt, KindAt, IsCircle, NoCircle, TooLong}
+use Rattle.mania.specs.Job.{refusal, under}
+use Rattle.mania.specs.Job as OfSong
+use Rattle.record.specs.Record.{recordRefusal, accepted, parse}
+use Rattle.job.specs.Job.{job, columns}
+
+-- Of the record's bytes with a buffer lent under the allowance a: the condition of a refusal by r at object i after n draws.
+pub record Condition (bytes buffer : List ℕ) (a r i n : ℕ) : Type 0 where
+  -- the numbers
+  pub from : 1 ≤ r
+  pub to : r ≤ 12
+  -- 1 to 7: the first condition of the record, in record order, that applies; before the walk, at object 0 and without a draw
+  pub unread : r ≤ 7 → (recordRefusal bytes ≡ r) × (i ≡ 0) × (n ≡ 0)
+  -- 8 to 12: no condition of the record applies
+  pub whole : 8 ≤ r → recordRefusal bytes ≡ 0
+  -- 8: the object is a slider that ends above 33,554,431
+  pub late : r ≡ 8 → (s : Song) × (parse bytes ≡ accepted s) × LateAt s (s .objects) i
+  -- 9: there are 8 columns, and the object is no circle
+  pub blocked : r ≡ 9 → (columns bytes ≡ 8) × ((s : Song) × (parse bytes ≡ accepted s) × KindAt NoCircle (s .objects) i)
+  -- 10: there are 8 columns, and the object is a circle
+  pub below : r ≡ 10 → (columns bytes ≡ 8) × ((s : Song) × (parse bytes ≡ accepted s) × KindAt IsCircle (s .objects) i)
+  -- 11: the buffer is under 8 bytes, or too short for the notes of the objects so far
+  pub short : r ≡ 11 → (s : Song) × (parse bytes ≡ accepted s) × ((length buffer < 8) ⊎ TooLong s (length buffer) a i n)
+  -- 12: a draw was needed and none was left; the whole allowance was drawn
+  pub drawn : r ≡ 12 → (n ≡ a) × ((s : Song) × (parse bytes ≡ accepted s) × (under s buffer a ≡ spent i a))
+
+-- Of every record's bytes and buffer.
+pub record Refusals (bytes buffer : List ℕ) : Type 0 where
+  -- a refusal has its condition
+  pub holds : (a r i n : ℕ) → job bytes buffer a .answer ≡ refusal r i n → Condition bytes buffer a r i n
+  -- and zeroes the whole buffer
+  pub zeroed : (a r i n : ℕ) → job bytes buffer a .answer ≡ refusal r i n → job bytes buffer a .chart ≡ replicate (length buffer) 0
+  -- a job to which no condition applies ends in a chart
+  pub else : (a : ℕ) → ((r i n : ℕ) → Condition bytes buffer a r i n → ⊥) → (n : ℕ) × (job bytes buffer a .answer ≡ OfSong.accepted n)

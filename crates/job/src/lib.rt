@@ -1,0 +1,1 @@
+// Jobs on record bytes: their definition and what is claimed of them, in specs/. No code.

@@ -1,0 +1,212 @@
+-- 11 in a walk: with room enough the objects so far make notes, after the same draws, and a chart of them is longer than the buffer. Assumes nothing.
+use mathlib.Core.Path.{_≡_, refl, sym, ap, _∙_, subst}
+use mathlib.Core.Logic.{_⊎_, inl, inr, ⊎-elim}
+use Prim.Native.Nat.{ℕ, zero, suc, _+_, _-_, _*_, _^_, _≤_, _<_}
+use native.Mathlib.Nat.{add-zero, zero-add}
+use native.Mathlib.Omega.{arith}
+use mathlib.Core.Bool.{Bool, true, false}
+use mathlib.Core.List.{List, [], _∷_, _++_, append-nil}
+use lib.Dec.{ltb}
+use lib.Ieee.{Float}
+use lib.ListN.{length, take, length-append}
+use lib.Pow.{pow-pos}
+use borrow.Author.Tests.{ltb-true, le-ltb}
+use Rattle.rules.specs.Rule.{Rule, refuse, Outcome, ended, spent, run, taken, Done, if_then_else_}
+use Rattle.rules.specs.Refusal.{Refusal, tooShort, ObjectRule, number, spentNumber}
+use Rattle.rules.specs.Rule as Rule
+use Rattle.random.specs.Generator.{values, seeded, steps}
+use Rattle.random.specs.Play.{Answer, found, refused, on, play}
+use Rattle.random.specs.declared.Random.{Random}
+use Rattle.random.specs.declared.Draws.{Draws}
+use Rattle.random.specs.Laws.Play.{placed, play-run}
+use Rattle.random.specs.Laws.Allowance.{done-le, found-run}
+use Rattle.mania.specs.declared.Note.{Note}
+use Rattle.model.specs.declared.Object.{Object}
+use Rattle.mania.specs.declared.Facts.{Facts}
+use Rattle.mania.specs.declared.PrevValues.{PrevValues}
+use Rattle.mania.specs.Made.{Made}
+use Rattle.mania.specs.LimitedQueue.{Density}
+use Rattle.mania.specs.Object.{object}
+use Rattle.mania.specs.Chart.{inWalkOrder}
+use Rattle.model.specs.Song.{Song}
+use Rattle.mania.specs.Convert.{Walk, AtObject, at, seed, columnsOf, beginning, meets, factsAt, afterObject, walk, convert}
+use Rattle.mania.specs.Walked.{Stop, stop, spentAt, refusedAt, onWalk}
+use Rattle.mania.specs.PatternGenerator.{conversionDifficulty}
+use Rattle.mania.specs.Refusals.{TooLong}
+use Rattle.mania.specs.Job.{under}
+use Rattle.mania.proofs.Conditions.{object-left, object-not-11}
+use Rattle.mania.proofs.Demand.{some-columns}
+use Rattle.mania.specs.Laws.Walks.{before, walk-none, walk-refused, walk-full, walk-made}
+
+abbrev kind : {R A : Type 0} → Answer R A → ℕ
+kind (found a e) = 0
+kind (refused x e) = 1
+
+-- ---- the walk
+
+abbrev stopAt : Answer Stop (List (List Note)) → Stop
+stopAt (found a e) = stop 0 0
+stopAt (refused x e) = x
+
+abbrev left : {R A : Type 0} → Draws → Answer R A → Draws
+left d (found a e) = e
+left d (refused x e) = e
+
+before-none : (a : Answer Stop (List (List Note))) → before [] a ≡ a
+unfolding before
+before-none (found mss d) = refl
+before-none (refused r d) = refl
+
+before-refused : (nss : List (List Note)) (a : Answer Stop (List (List Note))) (r : Stop) (e : Draws) → before nss a ≡ refused r e → a ≡ refused r e
+unfolding before
+before-refused nss (found mss d) r e h = let z : _≡_ {A = ℕ} 0 1 = ap kind h in absurd (omega arith)
+before-refused nss (refused x d) r e h = h
+
+-- the notes so far, of the objects up to and with the k-th
+pub record Long (s : Song) (difficulty : Float) (columns room i : ℕ) (w : Walk) (os : List Object) (d : Draws) (j : ℕ) (e : Draws) : Type 0 where
+  pub k : ℕ
+  pub at : j ≡ i + k
+  pub nss : List (List Note)
+  pub made : (wide : ℕ) → 8 + 17 * (w .notes + length (inWalkOrder nss)) ≤ wide → onWalk (walk s difficulty columns wide i w (take (suc k) os)) d ≡ found nss e
+  pub long : room < 8 + 17 * (w .notes + length (inWalkOrder nss))
+
+length-one : (ns : List Note) → length (inWalkOrder (ns ∷ [])) ≡ length ns
+unfolding inWalkOrder
+length-one ns = ap length (append-nil ns)
+
+length-more : (ns : List Note) (nss : List (List Note)) → length (inWalkOrder (ns ∷ nss)) ≡ length ns + length (inWalkOrder nss)
+unfolding inWalkOrder
+length-more ns nss = length-append ns (inWalkOrder nss)
+
+-- what an object meets lies on the deck
+abbrev On : ℕ → Walk → Type 0
+On columns w = (w .prev .mask < 2 ^ columns) × (w .prev .last < columns)
+
+module _ (s : Song) (difficulty : Float) (columns room : ℕ) (some : 1 ≤ columns) (deck : columns ≤ 9) where
+  -- one object, with room enough
+  wide-made : (i : ℕ) (w : Walk) (o : Object) (os : List Object) (d e : Draws) (made : Made) (wide : ℕ)
+      → on (object (factsAt s difficulty (meets (o .kind) (o .start) (w .density)) o) (w .prev) columns o) d ≡ found made e → 8 + 17 * (w .notes + length (made .notes)) ≤ wide
+      → onWalk (walk s difficulty columns wide i w (o ∷ os)) d
+      ≡ before (made .notes ∷ []) (onWalk (walk s difficulty columns wide (suc i)
+      (afterObject (factsAt s difficulty (meets (o .kind) (o .start) (w .density)) o) o (meets (o .kind) (o .start) (w .density)) made w) os) e)
+  wide-made i w o os d e made wide h l =
+      sym (before-none (onWalk (walk s difficulty columns wide i w (o ∷ os)) d)) ∙ walk-made s difficulty columns wide i w o os d made e h (le-ltb wide _ l) []
+
+  module _ (o : Object) (os : List Object) (i : ℕ) (w : Walk) (on-deck : On columns w) (d : Draws) (j : ℕ) (e : Draws)
+      (rest : (i : ℕ) (w : Walk) → On columns w → (d : Draws) (j : ℕ) (e : Draws) → onWalk (walk s difficulty columns room i w os) d ≡ refused (stop j 11) e → Long s difficulty columns room i w os d j e)
+      (h : onWalk (walk s difficulty columns room i w (o ∷ os)) d ≡ refused (stop j 11) e) where
+    abbrev dens : Density
+    dens = meets (o .kind) (o .start) (w .density)
+
+    abbrev facts : Facts
+    facts = factsAt s difficulty dens o
+
+    abbrev rule : ObjectRule Made
+    rule = object facts (w .prev) columns o
+
+    here : (made : Made) (f : Draws) → on rule d ≡ found made f → ltb room (8 + 17 * (w .notes + length (made .notes))) ≡ true → Long s difficulty columns room i w (o ∷ os) d j e
+    unfolding before
+    here made f u l =
+        let t = sym (before-none (onWalk (walk s difficulty columns room i w (o ∷ os)) d)) ∙ walk-full s difficulty columns room i w o os d made f u l [] in
+        let ends : f ≡ e = ap (left d) (sym t ∙ h) in
+        let at : i ≡ j = ap (λ (a : Answer Stop (List (List Note))). stopAt a .object) (sym t ∙ h) in
+        record {
+          k = 0;
+          at = sym at ∙ sym (add-zero i);
+          nss = made .notes ∷ [];
+          made = λ wide m.
+              wide-made i w o [] d f made wide u (subst (λ (n : ℕ). 8 + 17 * (w .notes + n) ≤ wide) (length-one (made .notes)) m)
+              ∙ walk-none s difficulty columns wide (suc i) _ (made .notes ∷ []) f ∙ ap (λ (x : Draws). found (made .notes ∷ []) x) ends;
+          long = subst (λ (n : ℕ). room < 8 + 17 * (w .notes + n)) (sym (length-one (made .notes))) (ltb-true room _ l);
+        }
+
+    later : (made : Made) (f : Draws) → on rule d ≡ found made f → ltb room (8 + 17 * (w .notes + length (made .notes))) ≡ false → Long s difficulty columns room i w (o ∷ os) d j e
+    unfolding before afterObject
+    later made f u l =
+        let t = sym (before-none (onWalk (walk s difficulty columns room i w (o ∷ os)) d)) ∙ walk-made s difficulty columns room i w o os d made f u l [] in
+        let next-on = object-left facts (w .prev) columns o some deck (on-deck .0) (on-deck .1) d made f u in
+        let r = rest (suc i) (afterObject facts o dens made w) (next-on .1, next-on .0) f j e (before-refused (made .notes ∷ []) _ (stop j 11) e (sym t ∙ h)) in
+        let sizes = length-more (made .notes) (r .nss) in
+        record {
+          k = suc (r .k);
+          at = r .at ∙ next i (r .k);
+          nss = made .notes ∷ r .nss;
+          made = λ wide m.
+              wide-made i w o (take (suc (r .k)) os) d f made wide u (first (w .notes) (length (made .notes)) (length (inWalkOrder (r .nss))) wide sizes m)
+              ∙ ap (before (made .notes ∷ [])) (r .made wide (all (w .notes) (length (made .notes)) (length (inWalkOrder (r .nss))) wide sizes m));
+          long = past (w .notes) (length (made .notes)) (length (inWalkOrder (r .nss))) sizes (r .long);
+        }
+      where
+        next : (i k : ℕ) → suc i + k ≡ i + suc k
+        next i k = omega arith
+
+        first : (a b c wide : ℕ) {n : ℕ} → n ≡ b + c → 8 + 17 * (a + n) ≤ wide → 8 + 17 * (a + b) ≤ wide
+        first a b c wide e h = omega arith
+
+        all : (a b c wide : ℕ) {n : ℕ} → n ≡ b + c → 8 + 17 * (a + n) ≤ wide → 8 + 17 * (a + b + c) ≤ wide
+        all a b c wide e h = omega arith
+
+        past : (a b c : ℕ) {n : ℕ} → n ≡ b + c → room < 8 + 17 * (a + b + c) → room < 8 + 17 * (a + n)
+        past a b c e h = omega arith
+
+    found-object : (made : Made) (f : Draws) → on rule d ≡ found made f → (b : Bool) → ltb room (8 + 17 * (w .notes + length (made .notes))) ≡ b → Long s difficulty columns room i w (o ∷ os) d j e
+    found-object made f u true l = here made f u l
+    found-object made f u false l = later made f u l
+
+    by-object : (a : Answer ℕ Made) → on rule d ≡ a → Long s difficulty columns room i w (o ∷ os) d j e
+    by-object (found made f) u = found-object made f u (ltb room (8 + 17 * (w .notes + length (made .notes)))) refl
+    by-object (refused x f) u =
+        let t = sym (before-none (onWalk (walk s difficulty columns room i w (o ∷ os)) d)) ∙ walk-refused s difficulty columns room i w o os d x f u [] in
+        let is : x ≡ 11 = ap (λ (a : Answer Stop (List (List Note))). stopAt a .number) (sym t ∙ h) in
+        absurd (object-not-11 facts (w .prev) columns o some deck (on-deck .0) (on-deck .1) d f (u ∙ ap (λ (y : ℕ). refused y f) is))
+
+  pub eleven : (os : List Object) (i : ℕ) (w : Walk) → On columns w → (d : Draws) (j : ℕ) (e : Draws) → onWalk (walk s difficulty columns room i w os) d ≡ refused (stop j 11) e
+      → Long s difficulty columns room i w os d j e
+  unfolding walk play
+  eleven [] i w on-deck d j e h = let z : _≡_ {A = ℕ} 0 1 = ap kind h in absurd (omega arith)
+  eleven (o ∷ os) i w on-deck d j e h = by-object o os i w on-deck d j e (eleven os) h (on (object (factsAt s difficulty (meets (o .kind) (o .start) (w .density)) o) (w .prev) columns o) d) refl
+
+-- ---- the job
+
+module _ (s : Song) (deck : columnsOf s ≤ 9) (room a i n : ℕ) where
+  abbrev st : Random
+  st = seeded (seed (s .settings))
+
+  abbrev whole : ℕ → List Object → Rule ℕ AtObject (List (List Note))
+  whole wide os = walk s (conversionDifficulty (s .settings) (s .breaks) (s .objects)) (columnsOf s) wide 0 beginning os
+
+  walked : run (whole room (s .objects)) (values a st) ≡ Rule.refused (at i tooShort) n → TooLong s room a i n
+  unfolding placed taken beginning
+  walked u =
+      let m = whole room (s .objects) in
+      let d : Draws = record { random = st; left = a } in
+      let e : Draws = record { random = steps n st; left = a - n } in
+      let h : onWalk m d ≡ refused (stop i 11) e = play-run spentAt refusedAt m a st ∙ ap (placed spentAt refusedAt a st) u in
+      let l = eleven s (conversionDifficulty (s .settings) (s .breaks) (s .objects)) (columnsOf s) room (some-columns s) deck (s .objects) 0 beginning (pow-pos (columnsOf s), some-columns s) d i e h in
+      let small : n ≤ a = subst (λ (o : Outcome ℕ AtObject (List (List Note))). taken o ≤ a) u (done-le m st a (subst Done (sym u) tt)) in
+      let k-is : l .k ≡ i = sym (zero-add (l .k)) ∙ sym (l .at) in
+      record {
+        nss = l .nss;
+        made = λ wide w.
+            subst (λ (k : ℕ). run (whole wide (take (suc k) (s .objects))) (values a st) ≡ ended (l .nss) n) k-is
+            (found-run spentAt refusedAt (whole wide (take (suc (l .k)) (s .objects))) d (l .nss) e (l .made wide (none wide (length (inWalkOrder (l .nss))) w)) .0
+            ∙ ap (λ (j : ℕ). ended (l .nss) j) (back a n small));
+        long = out (length (inWalkOrder (l .nss))) (l .long);
+      }
+    where
+      none : (wide k : ℕ) → 8 + 17 * k ≤ wide → 8 + 17 * (0 + k) ≤ wide
+      none wide k h = omega arith
+
+      out : (k : ℕ) → room < 8 + 17 * (0 + k) → room < 8 + 17 * k
+      out k h = omega arith
+
+      back : (a n : ℕ) → n ≤ a → a - (a - n) ≡ n
+      back a n h = omega arith
+
+  by-room : (b : Bool) → ltb room 8 ≡ b → run (if b then refuse (at 0 tooShort) else whole room (s .objects)) (values a st) ≡ Rule.refused (at i tooShort) n → (room < 8) ⊎ TooLong s room a i n
+  by-room true e u = inl (ltb-true room 8 e)
+  by-room false e u = inr (walked u)
+
+pub job-eleven : (s : Song) → columnsOf s ≤ 9 → (buffer : List ℕ) (a i n : ℕ) → under s buffer a ≡ Rule.refused (at i tooShort) n → (length buffer < 8) ⊎ TooLong s (length buffer) a i n
+unfolding under convert
+job-eleven s deck buffer a i n u = by-room s deck (length buffer) a i n (ltb (length buffer) 8) refl u

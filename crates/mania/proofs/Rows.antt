@@ -1,0 +1,236 @@
+-- The bench table's rows marked M, and the small examples of the refusals that the rules give, computed. `double a b` is the f64 nearest to
+-- a / b. Assumes nothing.
+use mathlib.Core.Path.{_≡_, refl}
+use Prim.Native.Nat.{ℕ, _+_, _^_}
+use mathlib.Core.Bool.{true, false}
+use mathlib.Core.List.{List, [], _∷_, _++_}
+use lib.IntN.{pos}
+use lib.Ieee.{Float, binary32, binary64, round}
+use lib.ListN.{replicate}
+use Rattle.rules.specs.Rule.{Outcome, ended, refused, spent, run}
+use Rattle.rules.specs.Refusal.{lateEnd, noColumn, offDeck, tooShort}
+use Rattle.random.specs.Generator.{next, low, seeded, between}
+use Rattle.random.specs.Rows as Rows
+use Rattle.floats.specs.Whole.{whole, count}
+use Rattle.floats.specs.declared.Way.the-variants.{Even}
+use Rattle.model.specs.declared.Settings.{Settings}
+use Rattle.model.specs.declared.Kind.{Kind}
+use Rattle.model.specs.declared.Kind.the-variants.{Circle, Slider, Spinner, Hold}
+use Rattle.model.specs.declared.Distance.the-variants as D
+use Rattle.model.specs.declared.NodeSound.the-variants as N
+use Rattle.mania.specs.declared.Stair.{Stair}
+use Rattle.mania.specs.declared.Stair.the-variants.{Up, Reverse}
+use Rattle.model.specs.declared.Object.{Object}
+use Rattle.mania.specs.declared.Facts.{Facts}
+use Rattle.mania.specs.declared.PrevValues.{PrevValues}
+use Rattle.mania.specs.declared.Note.{Note}
+use Rattle.mania.specs.declared.HitObjectPatternGenerator.{HitObjectPatternGenerator}
+use Rattle.mania.specs.Steps.{single, double}
+use Rattle.mania.specs.PatternType.{reverse}
+use Rattle.mania.specs.Pattern.{Pattern}
+use Rattle.mania.specs.Made.{Made, circle}
+use Rattle.mania.specs.EndTimeObject.{lasting, endNote}
+use Rattle.mania.specs.HitObject.{generateCore}
+use Rattle.mania.specs.PathObject.{startTime, endTime, spanLength}
+use Rattle.model.specs.Song.{Song}
+use Rattle.mania.specs.Convert.{at, seed, targetColumns, convert}
+use Rattle.mania.specs.Single.{withRoom, entryRefusal}
+use Rattle.mania.specs.Chart.{arranged, inWalkOrder, encode}
+use Rattle.mania.specs.Job.{Job, accepted, job}
+use Rattle.mania.proofs.Computing.{computing}
+
+abbrev settings : Float → Float → Float → Float → Settings
+settings hp cs od ar = record { hp = hp; cs = cs; od = od; ar = ar; multiplier = double 1 1 }
+
+abbrev objectOf : Float → ℕ → Kind → Object
+objectOf start sound kind = record { position = record { x = single 0 1; y = single 0 1 }; start = start; sound = sound; kind = kind }
+
+-- ---- M: seed words from 0: the first value, and what it means from 0 up to 9 and up to 7
+
+first-value : low (next (seeded 0)) ≡ 273327012
+first-value = Rows.first-value
+
+first-of-nine : between 0 9 (low (next (seeded 0))) ≡ 1
+first-of-nine = Rows.first-of-nine
+
+first-of-seven : between 0 7 (low (next (seeded 0))) ≡ 0
+first-of-seven = Rows.first-of-seven
+
+-- ---- M: seeds
+
+seed-160 : seed (settings (single 45 10) (single 4 1) (single 0 1) (single 0 1)) ≡ 160
+unfolding computing
+seed-160 = refl
+
+seed-518 : seed (settings (single 5 1) (single 4 1) (single 8 1) (single 9 1)) ≡ 518
+unfolding computing
+seed-518 = refl
+
+-- ---- M: rounding 1000.5 to 1000, 1001.5 to 1002, −0.5 to 0
+
+rounds-down : whole Even (double 10005 10) ≡ pos 1000
+unfolding computing
+rounds-down = refl
+
+rounds-up : whole Even (double 10015 10) ≡ pos 1002
+unfolding computing
+rounds-up = refl
+
+rounds-to-zero : whole Even (round binary64 true 5 10) ≡ pos 0
+unfolding computing
+rounds-to-zero = refl
+
+-- ---- M: columns by the share of sliders and spinners
+
+-- ten objects, so many of them spinners
+abbrev shared : ℕ → ℕ → List Object
+shared spinners circles = replicate spinners (objectOf (double 0 1) 0 (Spinner (double 0 1))) ++ replicate circles (objectOf (double 0 1) 0 Circle)
+
+share-2-od-5 : targetColumns (settings (single 0 1) (single 0 1) (single 5 1) (single 0 1)) (shared 2 8) ≡ 6
+unfolding computing
+share-2-od-5 = refl
+
+share-2-od-5½ : targetColumns (settings (single 0 1) (single 0 1) (single 55 10) (single 0 1)) (shared 2 8) ≡ 7
+unfolding computing
+share-2-od-5½ = refl
+
+share-6-cs-4-od-8 : targetColumns (settings (single 0 1) (single 4 1) (single 8 1) (single 0 1)) (shared 6 4) ≡ 7
+unfolding computing
+share-6-cs-4-od-8 = refl
+
+-- ---- M: slider times
+
+abbrev facts : Facts
+facts = record { difficulty = double 0 1; multiplier = double 1 1; beat = double 1000 1; velocity = double 1 1; kiai = false; density = double 0 1 }
+
+abbrev slider : Object
+slider = objectOf (double 10004 10) 0 (Slider 0 (D.Given (double 100 1)) N.Missing)
+
+slider-starts : startTime slider ≡ 1000
+unfolding computing
+slider-starts = refl
+
+slider-ends : endTime facts slider 1 (D.Given (double 100 1)) ≡ 2000
+unfolding computing
+slider-ends = refl
+
+-- 3 spans over 1,000 ms
+span-333 : spanLength facts slider 2 (D.Given (double 100 3)) ≡ 333
+unfolding computing
+span-333 = refl
+
+-- ---- M: a spinner or hold of 99.9 is a circle, of 100 a hold
+
+hold-99 : endNote slider (lasting (objectOf (double 0 1) 0 Circle) (double 999 10)) 0 .hold ≡ false
+unfolding computing
+hold-99 = refl
+
+hold-100 : endNote slider (lasting (objectOf (double 0 1) 0 Circle) (double 100 1)) 0 .hold ≡ true
+unfolding computing
+hold-100 = refl
+
+-- ---- M: mask {1}, 4 columns, reverse: column 2
+
+abbrev reversing : HitObjectPatternGenerator
+reversing =
+    record {
+      columns = 4;
+      x = single 0 1;
+      start = double 0 1;
+      sound = 0;
+      difficulty = double 0 1;
+      mask = 2 ^ 1;
+      last = 1;
+      stair = Up;
+      flags = reverse;
+    }
+
+reverse-2 : run (generateCore reversing) [] ≡ ended (record { mask = 2 ^ 2; last = 2; notes = circle 2 (double 0 1) ∷ [] }) 0
+unfolding computing
+reverse-2 = refl
+
+-- ---- the job that `charttext` prints whole: key choice 9, settings 0, multiplier 1, one hold at 1000 for 300; 273327012 is the first value from seed 0
+
+abbrev songOf : ℕ → List Object → Song
+songOf key objects =
+    record {
+      keys = key;
+      settings = settings (single 0 1) (single 0 1) (single 0 1) (single 0 1);
+      breaks = [];
+      timingPoints = [];
+      difficultyPoints = [];
+      effectPoints = [];
+      objects = objects;
+    }
+
+abbrev holding : Song
+holding = songOf 9 (objectOf (double 1000 1) 0 (Hold (double 300 1)) ∷ [])
+
+abbrev held : Note
+held = record { column = 1; hold = true; start = double 1000 1; duration = double 300 1 }
+
+hold-song : run (convert holding 65536) (273327012 ∷ []) ≡ ended ((held ∷ []) ∷ []) 1
+unfolding computing
+hold-song = refl
+
+hold-chart : encode 9 1 (arranged [] (inWalkOrder ((held ∷ []) ∷ [])))
+    ≡ 0x19 ∷ 0 ∷ 0 ∷ 1 ∷ 0 ∷ 0 ∷ 0 ∷ 1
+    ∷ 0x18 ∷ 0x40 ∷ 0x8f ∷ 0x40 ∷ 0 ∷ 0 ∷ 0 ∷ 0 ∷ 0 ∷ 0x40 ∷ 0x72 ∷ 0xc0 ∷ 0 ∷ 0 ∷ 0 ∷ 0 ∷ 0 ∷ []
+unfolding computing
+hold-chart = refl
+
+-- ---- the refusals' small examples
+
+-- 8: 131,072 long, beat 60,000, velocity 0.1
+abbrev slow : Facts
+slow = record { difficulty = double 0 1; multiplier = double 1 1; beat = double 60000 1; velocity = double 1 10; kiai = false; density = double 0 1 }
+
+-- a previous pattern by its mask and last column
+abbrev previous : ℕ → ℕ → Stair → PrevValues
+previous mask last stair =
+    record { time = double 0 1; position = record { x = single 0 1; y = single 0 1 }; mask = mask; last = last; stair = stair }
+
+refusal-8 : run (withRoom slow (previous 0 0 Up) 4 (objectOf (double 0 1) 0 (Slider 0 (D.Given (double 131072 1)) N.Missing)) 100) [] ≡ refused lateEnd 0
+unfolding computing
+refusal-8 = refl
+
+-- 9: spinner, 8 columns, mask 1 to 7, plain sound; the column is drawn before the search
+refusal-9 : run (withRoom facts (previous 254 7 Up) 8 (objectOf (double 0 1) 0 (Spinner (double 0 1))) 100) (273327012 ∷ []) ≡ refused noColumn 1
+unfolding computing
+refusal-9 = refl
+
+-- 10: reverse stair at 8 columns from column 0
+refusal-10 : run (withRoom facts (previous 1 0 Reverse) 8 (objectOf (double 90 1) 0 Circle) 100) [] ≡ refused offDeck 0
+unfolding computing
+refusal-10 = refl
+
+-- 11: 7 bytes
+refusal-11 : run (convert holding 7) (273327012 ∷ []) ≡ refused (at 0 tooShort) 0
+unfolding computing
+refusal-11 = refl
+
+-- and a buffer that has room for the header alone: after the object's draws
+refusal-11-notes : run (convert holding 8) (273327012 ∷ []) ≡ refused (at 0 tooShort) 1
+unfolding computing
+refusal-11-notes = refl
+
+-- 12: allowance 0, hold with plain sound
+refusal-12 : run (convert holding 65536) [] ≡ spent 0 0
+unfolding computing
+refusal-12 = refl
+
+-- 13: 4 columns, mask bit 4
+refusal-13 : entryRefusal facts (previous 16 4 Up) 4 (objectOf (double 0 1) 0 Circle) ≡ 13
+unfolding computing
+refusal-13 = refl
+
+-- the whole job, with a buffer of 26 bytes lent and one draw allowed
+hold-job : job holding (replicate 26 165) 1
+    ≡ record {
+      answer = accepted 25;
+      chart =
+          0x19 ∷ 0 ∷ 0 ∷ 1 ∷ 0 ∷ 0 ∷ 0 ∷ 1
+          ∷ 0x18 ∷ 0x40 ∷ 0x8f ∷ 0x40 ∷ 0 ∷ 0 ∷ 0 ∷ 0 ∷ 0 ∷ 0x40 ∷ 0x72 ∷ 0xc0 ∷ 0 ∷ 0 ∷ 0 ∷ 0 ∷ 0 ∷ 165 ∷ [];
+    }
+unfolding computing
+hold-job = refl

@@ -1,0 +1,170 @@
+-- convert/mod.rs: the seed, the column count and the walk over a song's objects. Assumes nothing.
+use Prim.Native.Nat.{ℕ, zero, suc, _+_, _*_, min, max}
+use mathlib.Core.Bool.{Bool, _||_}
+use mathlib.Core.List.{List, [], _∷_}
+use lib.Dec.{eqb, leb, ltb}
+use lib.Ieee.{Float, binary32, binary64, add, mul, div, lt}
+use lib.ListN.{length}
+use Rattle.rules.specs.Rule.{Rule, give, refuse, label, _>>=_, if_then_else_}
+use Rattle.rules.specs.Refusal.{Refusal, tooShort, ObjectRule}
+use Rattle.floats.specs.Whole.{count}
+use Rattle.floats.specs.declared.Way.the-variants.{Cut, Even}
+use Rattle.model.specs.declared.Settings.{Settings}
+use Rattle.model.specs.declared.Position.{Position}
+use Rattle.model.specs.declared.Distance.{Distance}
+use Rattle.model.specs.declared.Kind.{Kind}
+use Rattle.model.specs.declared.Kind.the-variants.{Circle, Slider, Spinner, Hold}
+use Rattle.model.specs.declared.Object.{Object}
+use Rattle.model.specs.Song.{Song}
+use Rattle.mania.specs.declared.Facts.{Facts}
+use Rattle.mania.specs.declared.PrevValues.{PrevValues}
+use Rattle.mania.specs.declared.Stair.the-variants.{Up}
+use Rattle.mania.specs.declared.Note.{Note}
+use Rattle.mania.specs.Steps.{single, double, double#}
+use Rattle.model.specs.ControlPoint.{beatAt, velocityAt, kiaiAt}
+use Rattle.model.specs.Totals.{slidersAndSpinners}
+use Rattle.mania.specs.LimitedQueue.{Density, computeDensity, unknownDensity}
+use Rattle.mania.specs.PatternGenerator.{conversionDifficulty}
+use Rattle.mania.specs.PathObject.{spanLength}
+use Rattle.mania.specs.Made.{Made}
+use Rattle.mania.specs.Object.{object}
+
+-- ---- the seed and the columns
+
+-- round(hp + cs)·20 + od·41.2 cut toward zero + round(ar)
+unfoldable pub seed : Settings → ℕ
+seed s = count Even (add binary32 (s .hp) (s .cs)) * 20 + count Cut (mul binary32 (s .od) (single 412 10)) + count Even (s .ar)
+
+-- by od alone: the last branch of `target_columns`
+unfoldable pub columnsByOd : ℕ → ℕ
+columnsByOd od = max (min (od + 1) 7) 4
+
+-- by the share of sliders and spinners, and cs and od rounded
+unfoldable pub columnsByShare : Float → ℕ → ℕ → ℕ
+columnsByShare share cs od =
+    if lt share (double 2 10) then 7
+    else if lt share (double 3 10) || leb 5 cs then (if ltb 5 od then 7 else 6)
+    else if lt (double 6 10) share then (if ltb 4 od then 5 else 4)
+    else columnsByOd od
+
+-- `target_columns` without a key choice; the share is a quotient in f64
+unfoldable pub targetColumns : Settings → List Object → ℕ
+targetColumns s [] = columnsByOd (count Even (s .od))
+targetColumns s (o ∷ os) =
+    columnsByShare (div binary64 (double# (slidersAndSpinners (o ∷ os))) (double# (length (o ∷ os)))) (count Even (s .cs)) (count Even (s .od))
+
+-- the key choice, else `target_columns`
+unfoldable pub columnsOf : Song → ℕ
+columnsOf s = if eqb (s .keys) 0 then targetColumns (s .settings) (s .objects) else s .keys
+
+-- ---- the walk
+
+-- what the walk has come to: the previous values, the density with its last times, and how many notes were made
+pub record Walk : Type 0 where
+  pub prev : PrevValues
+  pub density : Density
+  pub notes : ℕ
+
+-- `PrevValues::default`
+unfoldable pub beginning : Walk
+beginning =
+    record {
+      prev = record { time = double 0 1; position = record { x = single 0 1; y = single 0 1 }; mask = 0; last = 0; stair = Up };
+      density = unknownDensity;
+      notes = 0;
+    }
+
+-- a circle counts in the density before its pattern is made
+unfoldable pub meets : Kind → Float → Density → Density
+meets Circle start d = computeDensity start d
+meets (Slider repeats distance node) start d = d
+meets (Spinner duration) start d = d
+meets (Hold duration) start d = d
+
+-- the facts in force at an object
+unfoldable pub factsAt : Song → Float → Density → Object → Facts
+factsAt s difficulty d o =
+    record {
+      difficulty = difficulty;
+      multiplier = s .settings .multiplier;
+      beat = beatAt (s .timingPoints) (o .start);
+      velocity = velocityAt (s .difficultyPoints) (o .start);
+      kiai = kiaiAt (s .effectPoints) (o .start);
+      density = d .value;
+    }
+
+-- the time of a slider's n-th node, from its start as it was given
+unfoldable pub nodeTime : Object → ℕ → ℕ → Float
+nodeTime o length n = add binary64 (o .start) (mul binary64 (double# length) (double# n))
+
+-- the density after the nodes from n on, so many of them
+unfoldable pub nodes : Object → ℕ → ℕ → ℕ → Density → Density
+nodes o length zero n d = d
+nodes o length (suc k) n d = nodes o length k (suc n) (computeDensity (nodeTime o length n) d)
+
+-- the density after an object. The Rust counts a slider's nodes before it makes the pattern, which does not read the density
+unfoldable pub leaves : Facts → Object → Kind → Density → Density
+leaves f o Circle d = d
+leaves f o (Slider repeats distance node) d = nodes o (spanLength f o repeats distance) (repeats + 2) 0 d
+leaves f o (Spinner duration) d = computeDensity (add binary64 (o .start) duration) d
+leaves f o (Hold duration) d = computeDensity (add binary64 (o .start) duration) d
+
+-- the previous time after an object: of a slider its last node's
+unfoldable pub timeAfter : Facts → Object → Kind → Float
+timeAfter f o Circle = o .start
+timeAfter f o (Slider repeats distance node) = nodeTime o (spanLength f o repeats distance) (repeats + 1)
+timeAfter f o (Spinner duration) = add binary64 (o .start) duration
+timeAfter f o (Hold duration) = add binary64 (o .start) duration
+
+-- the previous position after an object: of a spinner or a hold the middle
+unfoldable pub positionAfter : Object → Kind → Position
+positionAfter o Circle = o .position
+positionAfter o (Slider repeats distance node) = o .position
+positionAfter o (Spinner duration) = record { x = single 256 1; y = single 192 1 }
+positionAfter o (Hold duration) = record { x = single 256 1; y = single 192 1 }
+
+-- the walk after an object and what it made
+unfoldable pub afterObject : Facts → Object → Density → Made → Walk → Walk
+afterObject f o d made w =
+    record {
+      prev = record {
+        time = timeAfter f o (o .kind);
+        position = positionAfter o (o .kind);
+        mask = made .mask;
+        last = made .last;
+        stair = made .stair;
+      };
+      density = leaves f o (o .kind) d;
+      notes = w .notes + length (made .notes);
+    }
+
+-- a refusal in a walk, and the object's index
+pub record AtObject : Type 0 where
+  pub refusal : Refusal
+  pub object : ℕ
+
+-- the refusal r at object i
+abbrev pub at : ℕ → Refusal → AtObject
+at i r = record { refusal = r; object = i }
+
+-- an object of the walk: its rule, and then 11 where a chart of all notes so far is longer than the buffer, whose length is `room`
+unfoldable pub objectIn : ℕ → ℕ → Facts → Walk → Object → ObjectRule Made
+objectIn columns room f w o = do
+  made ← object f (w .prev) columns o
+  if ltb room (8 + 17 * (w .notes + length (made .notes))) then refuse tooShort else give made
+
+-- the notes of each object from the i-th on, in walk order
+unfoldable pub walk : Song → Float → ℕ → ℕ → ℕ → Walk → List Object → Rule ℕ AtObject (List (List Note))
+walk s difficulty columns room i w [] = give []
+walk s difficulty columns room i w (o ∷ os) = do
+  let d = meets (o .kind) (o .start) (w .density)
+  let f = factsAt s difficulty d o
+  made ← label (λ p. i) (at i) (objectIn columns room f w o)
+  rest ← walk s difficulty columns room (suc i) (afterObject f o d made w) os
+  give (made .notes ∷ rest)
+
+-- `convert`, of a song that was read: 11 for a buffer under 8 bytes, and then the walk
+unfoldable pub convert : Song → ℕ → Rule ℕ AtObject (List (List Note))
+convert s room =
+    if ltb room 8 then refuse (at 0 tooShort)
+    else walk s (conversionDifficulty (s .settings) (s .breaks) (s .objects)) (columnsOf s) room 0 beginning (s .objects)

@@ -1,0 +1,3 @@
+-- What code of other crates needs of these rules: `Walks`, the walk one object at a time; `Singles`, the single-object entry.
+pub mod Walks
+pub mod Singles

@@ -1,0 +1,82 @@
+-- The single-object entry, from what its object's rule came to from the state that was lent. Assumes nothing.
+use mathlib.Core.Path.{_≡_, refl, sym, ap, ap₂, _∙_, subst}
+use Prim.Native.Nat.{ℕ, zero, suc, _-_, _*_, _≤_}
+use native.Mathlib.Omega.{arith}
+use mathlib.Core.Bool.{Bool, true, false}
+use mathlib.Core.List.{List}
+use lib.Dec.{eqb, ltb}
+use lib.ListN.{length}
+use borrow.Author.Tests.{eq-eqb, ne-eqb}
+use Rattle.rules.specs.Rule.{Outcome, ended, spent, run, refuse, give, if_then_else_}
+use Rattle.rules.specs.Rule as Rule
+use Rattle.rules.specs.Refusal.{Refusal, tooShort, number, spentNumber, ObjectRule}
+use Rattle.random.specs.Generator.{values, steps}
+use Rattle.random.specs.Play.{Answer, found, refused, on, play}
+use Rattle.random.specs.declared.Random.{Random}
+use Rattle.random.specs.declared.Draws.{Draws}
+use Rattle.random.specs.Laws.Play.{placed, play-run}
+use Rattle.random.specs.Laws.On.{found-bind, refused-bind}
+use Rattle.random.specs.Laws.Allowance.{found-run, refused-run}
+use Rattle.model.specs.declared.Object.{Object}
+use Rattle.mania.specs.declared.Facts.{Facts}
+use Rattle.mania.specs.declared.PrevValues.{PrevValues}
+use Rattle.mania.specs.Made.{Made}
+use Rattle.mania.specs.Object.{object}
+use Rattle.mania.specs.Chart.{body, written}
+use Rattle.mania.specs.Single.{made, Single, withRoom, entryRefusal, refusing, ending, singleObject}
+
+-- where a rule ended, the state has made as many steps as draws are gone
+module _ {A : Type 0} (m : ObjectRule A) (d : Draws) where
+  abbrev after : A → Answer ℕ A → A × Draws
+  after a (found b e) = (b, e)
+  after a (refused x e) = (a, e)
+
+  stepped : (a : A) (e : Draws) → on m d ≡ found a e → e .random ≡ steps (d .left - e .left) (d .random)
+  unfolding placed
+  stepped a e h =
+      let u = found-run (λ p. spentNumber) number m d a e h .0 in
+      let same : found a e ≡ placed {P = Unit {0}} (λ p. spentNumber) number (d .left) (d .random) (ended a (d .left - e .left)) =
+      sym h ∙ play-run (λ p. spentNumber) number m (d .left) (d .random) ∙ ap (placed (λ p. spentNumber) number (d .left) (d .random)) u in
+      ap (λ (x : Answer ℕ A). after a x .1 .random) same
+
+module _ (f : Facts) (v : PrevValues) (columns : ℕ) (o : Object) (r : Random) (a : ℕ) (buffer : List ℕ) where
+  abbrev lent : Draws
+  lent = record { random = r; left = a }
+
+  -- a check fails
+  pub single-checked : (entryRefusal f v columns o ≡ 0 → ⊥) → singleObject f v columns o r a buffer ≡ refusing (entryRefusal f v columns o) r buffer
+  unfolding singleObject
+  single-checked n = rw (ne-eqb (entryRefusal f v columns o) 0 n)
+
+  module _ (passes : entryRefusal f v columns o ≡ 0) where
+    abbrev roomy : ObjectRule Made
+    roomy = withRoom f v columns o (length buffer)
+
+    by-rule : singleObject f v columns o r a buffer ≡ ending r buffer (run roomy (values a r))
+    unfolding singleObject
+    by-rule = rw (eq-eqb (entryRefusal f v columns o) 0 passes)
+
+    stopped : (x : ℕ) (e : Draws) → on roomy lent ≡ refused x e → singleObject f v columns o r a buffer ≡ refusing x r buffer
+    unfolding ending
+    stopped x e h = by-rule ∙ refused-run (λ p. spentNumber) number roomy lent (ending r buffer) (λ y n. refusing y r buffer) (λ p n. refl) (λ k n. refl) x e h .0
+
+    -- the object's rule is refused, or spent
+    pub single-refused : (x : ℕ) (e : Draws) → on (object f v columns o) lent ≡ refused x e → singleObject f v columns o r a buffer ≡ refusing x r buffer
+    unfolding withRoom
+    single-refused x e h = stopped x e (refused-bind (object f v columns o) _ lent x e h)
+
+    -- its notes are too long for the buffer: 11
+    pub single-full : (m : Made) (e : Draws) → on (object f v columns o) lent ≡ found m e → ltb (length buffer) (17 * length (m .notes)) ≡ true
+        → singleObject f v columns o r a buffer ≡ refusing 11 r buffer
+    unfolding withRoom play
+    single-full m e h l = stopped 11 e (found-bind (object f v columns o) _ lent m e h ∙ rw l)
+
+    -- it made its notes
+    pub single-made : (m : Made) (e : Draws) → on (object f v columns o) lent ≡ found m e → ltb (length buffer) (17 * length (m .notes)) ≡ false
+        → singleObject f v columns o r a buffer
+        ≡ record { answer = made (length (m .notes)) (m .mask) (m .last) (m .stair) (e .random) (a - e .left); notes = written (body (m .notes)) buffer }
+    unfolding withRoom play ending
+    single-made m e h l =
+        let k : on roomy lent ≡ found m e = found-bind (object f v columns o) _ lent m e h ∙ rw l in
+        by-rule ∙ ap (ending r buffer) (found-run (λ p. spentNumber) number roomy lent m e k .0)
+        ∙ ap (λ (s : Random). record { answer = made (length (m .notes)) (m .mask) (m .last) (m .stair) s (a - e .left); notes = written (body (m .notes)) buffer }) (sym (stepped roomy lent m e k))

@@ -1,0 +1,124 @@
+-- The walk, one object at a time: for a loop over the objects that keeps the notes made so far; and a job, from how its walk ended.
+-- Assumes nothing.
+use mathlib.Core.Path.{_≡_, refl, sym, ap, _∙_}
+use Prim.Native.Nat.{ℕ, zero, suc, _+_, _-_, _*_}
+use mathlib.Core.Bool.{Bool, true, false}
+use mathlib.Core.List.{List, [], _∷_, _++_, append-assoc, append-nil}
+use lib.Dec.{ltb}
+use lib.Ieee.{Float}
+use lib.ListN.{length}
+use Rattle.rules.specs.Rule.{Rule, give, refuse, label, _>>=_, if_then_else_, ended}
+use Rattle.rules.specs.Refusal.{Refusal, number, spentNumber, ObjectRule}
+use Rattle.random.specs.Generator.{seeded}
+use Rattle.random.specs.Play.{Answer, found, refused, on, play}
+use Rattle.random.specs.declared.Draws.{Draws}
+use Rattle.random.specs.Laws.Play as Play
+use Rattle.random.specs.Laws.Play.{follow, play-bind}
+use Rattle.random.specs.Laws.On.{found-bind, refused-bind}
+use Rattle.random.specs.Laws.Allowance.{found-run, refused-run}
+use Rattle.mania.specs.declared.Note.{Note}
+use Rattle.model.specs.declared.Object.{Object}
+use Rattle.model.specs.Song.{Song}
+use Rattle.mania.specs.declared.Facts.{Facts}
+use Rattle.mania.specs.Made.{Made}
+use Rattle.mania.specs.LimitedQueue.{Density}
+use Rattle.mania.specs.Object.{object}
+use Rattle.mania.specs.Convert.{Walk, AtObject, at, seed, columnsOf, meets, factsAt, afterObject, objectIn, walk, convert}
+use Rattle.mania.specs.Walked.{Stop, stop, spentAt, refusedAt, onWalk}
+use Rattle.mania.specs.Job.{Job, ending, refusing, under, job}
+
+-- ---- an object's rule in a walk
+
+module _ {A : Type 0} (i : ℕ) (m : ObjectRule A) (d : Draws) where
+  found-at : (a : A) (e : Draws) → on m d ≡ found a e → onWalk (label (λ p. i) (at i) m) d ≡ found a e
+  found-at a e h = Play.found-label (λ p. spentNumber) number spentAt refusedAt (λ p. i) (at i) (stop i) (λ p. refl) (λ r. refl) m d a e h
+
+  refused-at : (r : ℕ) (e : Draws) → on m d ≡ refused r e → onWalk (label (λ p. i) (at i) m) d ≡ refused (stop i r) e
+  refused-at r e h = Play.refused-label (λ p. spentNumber) number spentAt refusedAt (λ p. i) (at i) (stop i) (λ p. refl) (λ r. refl) m d r e h
+
+-- an answer with the notes of the objects before put in front
+unfoldable pub before : List (List Note) → Answer Stop (List (List Note)) → Answer Stop (List (List Note))
+before nss (found mss d) = found (nss ++ mss) d
+before nss (refused r d) = refused r d
+
+module _ (s : Song) (difficulty : Float) (columns room i : ℕ) (w : Walk) where
+  -- no object is left
+  pub walk-none : (nss : List (List Note)) (d : Draws) → before nss (onWalk (walk s difficulty columns room i w []) d) ≡ found nss d
+  unfolding before walk play
+  walk-none nss d = ap (λ (x : List (List Note)). found x d) (append-nil nss)
+
+  module _ (o : Object) (os : List Object) (d : Draws) where
+    -- the density and the facts at the object
+    abbrev dens : Density
+    dens = meets (o .kind) (o .start) (w .density)
+
+    abbrev facts : Facts
+    facts = factsAt s difficulty dens o
+
+    -- whether the notes made so far, and so many more, are too long for the buffer
+    abbrev tooLong : Made → Bool
+    tooLong made = ltb room (8 + 17 * (w .notes + length (made .notes)))
+
+    in-room : (made : Made) (e : Draws) → on (object facts (w .prev) columns o) d ≡ found made e → tooLong made ≡ false → on (objectIn columns room facts w o) d ≡ found made e
+    unfolding objectIn play
+    in-room made e h f = found-bind (object facts (w .prev) columns o) _ d made e h ∙ rw f
+
+    out-of-room : (made : Made) (e : Draws) → on (object facts (w .prev) columns o) d ≡ found made e → tooLong made ≡ true → on (objectIn columns room facts w o) d ≡ refused 11 e
+    unfolding objectIn play
+    out-of-room made e h f = found-bind (object facts (w .prev) columns o) _ d made e h ∙ rw f
+
+    no-object : (r : ℕ) (e : Draws) → on (object facts (w .prev) columns o) d ≡ refused r e → on (objectIn columns room facts w o) d ≡ refused r e
+    unfolding objectIn
+    no-object r e h = refused-bind (object facts (w .prev) columns o) _ d r e h
+
+    stopped : (r : ℕ) (e : Draws) → on (objectIn columns room facts w o) d ≡ refused r e → (nss : List (List Note))
+        → before nss (onWalk (walk s difficulty columns room i w (o ∷ os)) d) ≡ refused (stop i r) e
+    unfolding before walk
+    stopped r e h nss =
+        let m = objectIn columns room facts w o in
+        ap (before nss) (Play.refused-bind spentAt refusedAt (label (λ p. i) (at i) m) _ d (stop i r) e (refused-at i m d r e h))
+
+    -- the object is refused: so is the walk, at its index
+    pub walk-refused : (r : ℕ) (e : Draws) → on (object facts (w .prev) columns o) d ≡ refused r e → (nss : List (List Note))
+        → before nss (onWalk (walk s difficulty columns room i w (o ∷ os)) d) ≡ refused (stop i r) e
+    walk-refused r e h nss = stopped r e (no-object r e h) nss
+
+    -- its notes are too long for the buffer: 11
+    pub walk-full : (made : Made) (e : Draws) → on (object facts (w .prev) columns o) d ≡ found made e → tooLong made ≡ true → (nss : List (List Note))
+        → before nss (onWalk (walk s difficulty columns room i w (o ∷ os)) d) ≡ refused (stop i 11) e
+    walk-full made e h f nss = stopped 11 e (out-of-room made e h f) nss
+
+    rest-before : (nss : List (List Note)) (ns : List Note) (a : Answer Stop (List (List Note)))
+        → before nss (follow spentAt refusedAt a (λ rest. give (ns ∷ rest))) ≡ before (nss ++ ns ∷ []) a
+    unfolding before play
+    rest-before nss ns (found mss e) = ap (λ (x : List (List Note)). found x e) (sym (append-assoc nss (ns ∷ []) mss))
+    rest-before nss ns (refused r e) = refl
+
+    -- it made its notes: the walk goes on after it
+    pub walk-made : (made : Made) (e : Draws) → on (object facts (w .prev) columns o) d ≡ found made e → tooLong made ≡ false → (nss : List (List Note))
+        → before nss (onWalk (walk s difficulty columns room i w (o ∷ os)) d)
+        ≡ before (nss ++ made .notes ∷ []) (onWalk (walk s difficulty columns room (suc i) (afterObject facts o dens made w) os) e)
+    unfolding walk
+    walk-made made e h f nss =
+        let m = objectIn columns room facts w o in
+        let next = walk s difficulty columns room (suc i) (afterObject facts o dens made w) os in
+        ap (before nss) (Play.found-bind spentAt refusedAt (label (λ p. i) (at i) m) _ d made e (found-at i m d made e (in-room made e h f)))
+        ∙ ap (before nss) (play-bind spentAt refusedAt (λ rest. give (made .notes ∷ rest)) next (e .left) (e .random))
+        ∙ rest-before nss (made .notes) (onWalk next e)
+
+-- ---- a job, from what its rules come to from the seed's state
+
+module _ (s : Song) (buffer : List ℕ) (a : ℕ) where
+  abbrev from-seed : Draws
+  from-seed = record { random = seeded (seed (s .settings)); left = a }
+
+  pub job-made : (nss : List (List Note)) (e : Draws) → onWalk (convert s (length buffer)) from-seed ≡ found nss e
+      → job s buffer a ≡ ending (columnsOf s) buffer (ended nss (a - e .left))
+  unfolding job under
+  job-made nss e h = ap (ending (columnsOf s) buffer) (found-run spentAt refusedAt (convert s (length buffer)) from-seed nss e h .0)
+
+  pub job-stopped : (x : Stop) (e : Draws) → onWalk (convert s (length buffer)) from-seed ≡ refused x e
+      → job s buffer a ≡ refusing (x .number) (x .object) (a - e .left) buffer
+  unfolding job under ending
+  job-stopped x e h =
+      refused-run spentAt refusedAt (convert s (length buffer)) from-seed (ending (columnsOf s) buffer) (λ y n. refusing (y .number) (y .object) n buffer) (λ i n. refl) (λ r n. refl) x e h .0

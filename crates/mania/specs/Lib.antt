@@ -1,0 +1,22 @@
+-- The rules of the conversion, a module for each file of the Rust, and what a job and the single-object entry give by them.
+pub mod Steps
+pub mod Sound
+pub mod LimitedQueue
+pub mod ManiaObject
+pub mod PatternType
+pub mod Pattern
+pub mod Made
+pub mod PatternGenerator
+pub mod EndTimeObject
+pub mod HitObject
+pub mod PathObject
+pub mod Object
+pub mod Convert
+pub mod Chart
+pub mod Walked
+pub mod Refusals
+pub mod Single
+pub mod Job
+pub mod Demand
+pub mod SingleClaims
+pub mod Laws

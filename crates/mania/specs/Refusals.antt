@@ -1,0 +1,89 @@
+-- The conditions of a walk's refusals. Assumes nothing.
+use mathlib.Core.Path.{_≡_}
+use Prim.Native.Nat.{ℕ, zero, suc, _+_, _*_, _≤_, _<_}
+use mathlib.Core.List.{List, [], _∷_}
+use mathlib.Core.Bool.{true}
+use lib.Count.{ones}
+use lib.ListN.{length, take}
+use Rattle.rules.specs.Rule.{ended, run}
+use Rattle.rules.specs.Refusal.{lateEnd, noColumn, offDeck}
+use Rattle.random.specs.Generator.{values, seeded}
+use Rattle.mania.specs.declared.Facts.{Facts}
+use Rattle.mania.specs.declared.PrevValues.{PrevValues}
+use Rattle.mania.specs.declared.Note.{Note}
+use Rattle.model.specs.declared.Object.{Object}
+use Rattle.model.specs.declared.Kind.{Kind}
+use Rattle.model.specs.declared.Kind.the-variants.{Circle, Slider, Spinner, Hold}
+use Rattle.mania.specs.Steps.{double}
+use Rattle.mania.specs.PatternType.{reverseStair, contains}
+use Rattle.mania.specs.HitObject
+use Rattle.mania.specs.PathObject.{endTime, latest}
+use Rattle.model.specs.Song.{Song}
+use Rattle.mania.specs.Convert.{AtObject, seed, columnsOf, factsAt, beginning, walk}
+use Rattle.mania.specs.PatternGenerator.{conversionDifficulty}
+use Rattle.mania.specs.Chart.{inWalkOrder}
+
+-- 8: a slider ends above the latest time
+unfoldable pub Late : Facts → Object → Kind → Type 0
+Late f o Circle = ⊥
+Late f o (Slider repeats distance node) = latest < endTime f o (repeats + 1) distance
+Late f o (Spinner duration) = ⊥
+Late f o (Hold duration) = ⊥
+
+-- the object at an index does; of the facts in force the end takes velocity, beat length and multiplier alone
+unfoldable pub LateAt : Song → List Object → ℕ → Type 0
+LateAt s [] i = ⊥
+LateAt s (o ∷ os) zero = Late (factsAt s (double 0 1) (beginning .density) o) o (o .kind)
+LateAt s (o ∷ os) (suc i) = LateAt s os i
+
+-- 9: of 8 columns, the previous pattern has columns 1 to 7 and not 0, so that it has each column which a search off it may give, and does not
+-- fill the deck; a circle is not refused so
+unfoldable pub Blocked : PrevValues → ℕ → Kind → Type 0
+Blocked v columns Circle = ⊥
+Blocked v columns (Slider repeats distance node) = (columns ≡ 8) × (v .mask ≡ 254)
+Blocked v columns (Spinner duration) = (columns ≡ 8) × (v .mask ≡ 254)
+Blocked v columns (Hold duration) = (columns ≡ 8) × (v .mask ≡ 254)
+
+-- 10: a circle of 8 columns in a reverse stair from column 0, the previous pattern's only one
+unfoldable pub Below : Facts → PrevValues → ℕ → Object → Kind → Type 0
+Below f v columns o Circle = (columns ≡ 8) × (v .last ≡ 0) × (ones (v .mask) ≡ 1) × (contains (HitObject.new f v columns o .flags) reverseStair ≡ true)
+Below f v columns o (Slider repeats distance node) = ⊥
+Below f v columns o (Spinner duration) = ⊥
+Below f v columns o (Hold duration) = ⊥
+
+-- the kind of the object at an index
+unfoldable pub KindAt : (Kind → Type 0) → List Object → ℕ → Type 0
+KindAt P [] i = ⊥
+KindAt P (o ∷ os) zero = P (o .kind)
+KindAt P (o ∷ os) (suc i) = KindAt P os i
+
+abbrev pub IsCircle : Kind → Type 0
+IsCircle Circle = Unit {0}
+IsCircle (Slider repeats distance node) = ⊥
+IsCircle (Spinner duration) = ⊥
+IsCircle (Hold duration) = ⊥
+
+abbrev pub NoCircle : Kind → Type 0
+NoCircle Circle = ⊥
+NoCircle (Slider repeats distance node) = Unit {0}
+NoCircle (Spinner duration) = Unit {0}
+NoCircle (Hold duration) = Unit {0}
+
+-- What is true of a walk over objects from index i on, with so many columns, that is refused by r.
+pub record InWalk (s : Song) (columns i : ℕ) (os : List Object) (r : AtObject) : Type 0 where
+  -- the object at index k of these: by 8, a slider that ends too late
+  pub late : r .refusal ≡ lateEnd → (k : ℕ) × (r .object ≡ i + k) × LateAt s os k
+  -- by 9: 8 columns, and no circle
+  pub blocked : r .refusal ≡ noColumn → (columns ≡ 8) × ((k : ℕ) × (r .object ≡ i + k) × KindAt NoCircle os k)
+  -- by 10: 8 columns, and a circle
+  pub below : r .refusal ≡ offDeck → (columns ≡ 8) × ((k : ℕ) × (r .object ≡ i + k) × KindAt IsCircle os k)
+
+-- 11: with room enough, the objects up to and with the one at index i make their notes, after the same draws, and a chart of them is longer than
+-- the room that there is
+pub record TooLong (s : Song) (room allowance i n : ℕ) : Type 0 where
+  pub nss : List (List Note)
+  pub made : (wide : ℕ) → 8 + 17 * length (inWalkOrder nss) ≤ wide
+      → run (walk s (conversionDifficulty (s .settings) (s .breaks) (s .objects)) (columnsOf s) wide 0 beginning (take (suc i) (s .objects)))
+      (values allowance (seeded (seed (s .settings))))
+      ≡ ended nss n
+  pub long : room < 8 + 17 * length (inWalkOrder nss)

@@ -1,0 +1,88 @@
+-- What is claimed of the single-object entry. Assumes nothing.
+use mathlib.Core.Path.{_≡_}
+use Prim.Native.Nat.{ℕ, _+_, _*_, _^_, _≤_, _<_}
+use mathlib.Core.List.{List, []}
+use lib.Dec.{eqb}
+use lib.ListN.{length}
+use Rattle.rules.specs.Rule.{Outcome, ended, refused, spent, run, taken, if_then_else_}
+use Rattle.rules.specs.Refusal.{Refusal, spentNumber}
+use Rattle.random.specs.Generator.{values, steps}
+use Rattle.random.specs.declared.Random.{Random}
+use Rattle.model.specs.declared.Object.{Object}
+use Rattle.mania.specs.declared.Facts.{Facts}
+use Rattle.mania.specs.declared.PrevValues.{PrevValues}
+use Rattle.mania.specs.declared.Note.{Note}
+use Rattle.mania.specs.declared.Stair.{Stair}
+use Rattle.mania.specs.Made.{Made}
+use Rattle.mania.specs.Object.{object}
+use Rattle.mania.specs.Chart.{body, written}
+use Rattle.mania.specs.Single.{Answer, made, refusal, Single, withRoom, entryRefusal, singleObject}
+use Rattle.mania.specs.Refusals.{Late, Blocked, Below}
+use Rattle.mania.specs.Demand.{Each, Lanes, OnDeck}
+
+module _ (f : Facts) (v : PrevValues) (columns : ℕ) (o : Object) (r : Random) (buffer : List ℕ) where
+  -- how the object's rule ends under an allowance, where the checks pass
+  unfoldable pub under : ℕ → Outcome (Unit {0}) Refusal Made
+  under a = run (withRoom f v columns o (length buffer)) (values a r)
+
+  -- how many draws are made: none where a check fails
+  unfoldable pub draws : ℕ → ℕ
+  draws a = if eqb (entryRefusal f v columns o) 0 then taken (under a) else 0
+
+  abbrev pub entry : ℕ → Single
+  entry a = singleObject f v columns o r a buffer
+
+  -- an end by 12, with the state that was lent
+  abbrev pub Spent : Single → Type 0
+  Spent j = j .answer ≡ refusal spentNumber r
+
+  -- what the entry gives where it makes notes: so many, with this mask, last column and stair, a state and draws
+  pub record Gave (a k mask last : ℕ) (stair : Stair) (s : Random) (n : ℕ) : Type 0 where
+    -- the state has made as many steps as draws are told
+    pub state : s ≡ steps n r
+    pub told : n ≡ draws a
+    -- the notes, and where they are written; later bytes keep their values
+    pub notes : List Note
+    pub count : k ≡ length notes
+    pub bytes : entry a .notes ≡ written (body notes) buffer
+    pub room : 17 * k ≤ length buffer
+    -- each lies on the deck, and no two share a lane
+    pub deck : Each (OnDeck columns) notes
+    pub lanes : Lanes notes
+    -- mask and last column lie on the deck
+    pub mask-on : mask < 2 ^ columns
+    pub last-on : last < columns
+    -- all of these are those of the object's rule
+    pub made : run (object f v columns o) (values a r) ≡ ended (record { notes = notes; mask = mask; last = last; stair = stair }) n
+
+  -- what is true where the entry refuses by k and gives a state s
+  pub record RefusedBy (a k : ℕ) (s : Random) : Type 0 where
+    -- the state is the one that was lent, and nothing is written
+    pub lent : s ≡ r
+    pub unwritten : entry a .notes ≡ buffer
+    -- 13, 4, 5 and 6: the first check that fails; else it is 8 to 12
+    pub checked : (entryRefusal f v columns o ≡ 0 → ⊥) → k ≡ entryRefusal f v columns o
+    pub from : entryRefusal f v columns o ≡ 0 → 8 ≤ k
+    pub to : entryRefusal f v columns o ≡ 0 → k ≤ 12
+    -- 8: the object is a slider that ends above 33,554,431
+    pub late : entryRefusal f v columns o ≡ 0 → k ≡ 8 → Late f o (o .kind)
+    -- 9: no circle, and of 8 columns the previous pattern has 1 to 7 and not 0
+    pub blocked : entryRefusal f v columns o ≡ 0 → k ≡ 9 → Blocked v columns (o .kind)
+    -- 10: a circle in a reverse stair of 8 columns from column 0
+    pub below : entryRefusal f v columns o ≡ 0 → k ≡ 10 → Below f v columns o (o .kind)
+    -- 11: the object's rule makes notes, and they are longer than the buffer
+    pub short : entryRefusal f v columns o ≡ 0 → k ≡ 11 → (m : Made) × (n : ℕ) × (run (object f v columns o) (values a r) ≡ ended m n) × (length buffer < 17 * length (m .notes))
+    -- 12: a draw was needed and none was left; the whole allowance was drawn
+    pub drawn : entryRefusal f v columns o ≡ 0 → k ≡ 12 → under a ≡ spent tt a
+
+  -- Of one object with all that is lent, under every allowance.
+  pub record Claims : Type 0 where
+    -- an end by 12 has used the whole allowance
+    pub whole : (a : ℕ) → Spent (entry a) → draws a ≡ a
+    -- after another end, the entry ends by 12 exactly where the allowance is below the draws made
+    pub below : (a b : ℕ) → (Spent (entry a) → ⊥) → b < draws a → entry b ≡ record { answer = refusal spentNumber r; notes = buffer }
+    pub only : (a b : ℕ) → (Spent (entry a) → ⊥) → Spent (entry b) → b < draws a
+    -- and every other allowance gives the same answer and the same bytes
+    pub same : (a b : ℕ) → (Spent (entry a) → ⊥) → draws a ≤ b → entry b ≡ entry a
+    pub gave : (a k mask last : ℕ) (stair : Stair) (s : Random) (n : ℕ) → entry a .answer ≡ made k mask last stair s n → Gave a k mask last stair s n
+    pub refuses : (a k : ℕ) (s : Random) → entry a .answer ≡ refusal k s → RefusedBy a k s

@@ -1,0 +1,3 @@
+pub mod SliderDeck
+pub mod Decks
+pub mod Ready

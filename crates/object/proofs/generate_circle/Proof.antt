@@ -1,0 +1,30 @@
+-- `object::generate_circle` meets its contract. Assumes nothing.
+use mathlib.Core.Path.{subst}
+use native.Mathlib.Omega.{arith}
+use Rattle.random.specs.Play.{on}
+use Rattle.mania.specs.declared.HitObjectPatternGenerator.{HitObjectPatternGenerator}
+use Rattle.mania.specs.HitObject as HitObject
+use Rattle.pattern.specs.Answers.{Generates}
+use Rattle.hit_object.specs.Answers.{circleAt}
+use borrow.Author.Needs.{needs}
+use Rattle.object.proofs.generate_circle.Statement.{statement}
+use Rattle.object.proofs.generate_circle.Tie as tie
+
+new-requires : tie.Need-new-requires
+new-requires c κs = search needs
+
+generate-requires : tie.Need-generate-requires
+unfolding HitObject.new
+generate-requires c κs = rw (c .before .new .ensures) (omega arith, omega arith, omega arith, omega arith)
+
+same-length : tie.Need-same-length
+same-length c = search needs
+
+returns : tie.Need-returns
+unfolding HitObject.new
+returns c =
+    let a = c .before .before .before .before .before .before .args in
+    subst (λ (g : HitObjectPatternGenerator). Generates (circleAt (g .start)) (c .before .before .generate .last .1 .1 .0) (on (HitObject.generate g) (a .d)) 14 (c .before .before .generate .result)) (c .before .before .before .before .new .ensures) (c .before .before .generate .ensures)
+
+pub generate-circle-spec : {M : Type 1} → statement M
+generate-circle-spec = tie.close (tie.spec new-requires generate-requires same-length returns)

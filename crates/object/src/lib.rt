@@ -1,0 +1,113 @@
+// The notes of one object, by its kind, for the walk and for the single-object entry.
+ghost use mathlib.Core.Path.{_≡_};
+ghost use Prim.Native.Nat.{_^_, _≤_, _<_};
+ghost use lib.ListN.{length};
+ghost use Rattle.random.specs.Play.{on};
+ghost use Rattle.mania.specs.HitObject as HitObject;
+ghost use Rattle.mania.specs.PathObject as PathObject;
+ghost use Rattle.pattern.specs.Answers.{Generates};
+ghost use Rattle.hit_object.specs.Answers.{circleAt};
+ghost use Rattle.slider_notes.specs.Words.{noteOfWord};
+ghost use Rattle.object.specs.Notes.{noteAt};
+ghost use Rattle.object.specs.Contract.{Asks, Ends};
+ghost use Rattle.object.specs.Range.{UpTo};
+use mania::Facts;
+use mania::Note;
+use mania::PrevValues;
+use model::Distance;
+use model::Kind;
+use model::NodeSound;
+use model::Object;
+use pattern::ObjectEnd;
+use random::Draws;
+
+// A circle at a start; a word's column is its lowest 4 bits.
+fn circle_at(start: f64, w: u64) -> Note
+    ensures { λ r. ⌜ r ≡ circleAt start w ⌝ }
+{
+    Note {
+        column: (w % 16) as u8,
+        hold: false,
+        start,
+        duration: 0.0,
+    }
+}
+
+// The note of a word that `generate` left.
+pub fn note_at(o: Object, w: u64) -> Note
+    ensures { λ r. ⌜ r ≡ noteAt o w ⌝ }
+{
+    let kind = o.kind;
+    match kind {
+        Kind::Circle => circle_at(o.start, w),
+        Kind::Slider {
+            repeats,
+            distance,
+            node,
+        } => slider_notes::note_of(w),
+        Kind::Spinner(duration) => end_time_object::end_note_at(o, duration, w),
+        Kind::Hold(duration) => end_time_object::end_note_at(o, duration, w),
+    }
+}
+
+// A circle's notes.
+fn generate_circle(
+    f: Facts,
+    v: PrevValues,
+    columns: u8,
+    o: Object,
+    words: &mut [u64],
+    d: Draws,
+) -> ObjectEnd
+    requires { ⌜ (1 ≤ columns) × (columns ≤ 9) × (v .last < columns) × (2050 ≤ length (now words)) ⌝ }
+    ensures { λ r. ⌜ Generates (circleAt (o .start)) (now (words .exit)) (on (HitObject.generate (HitObject.new f v columns o)) d) 14 r ⌝ }
+{
+    let g = hit_object::new(f, v, columns, o);
+    hit_object::generate(d, g, words)
+}
+
+// A slider's notes.
+fn generate_slider(
+    f: Facts,
+    v: PrevValues,
+    columns: u8,
+    o: Object,
+    repeats: u16,
+    distance: Distance,
+    node: NodeSound,
+    words: &mut [u64],
+    spare: &mut [u64],
+    d: Draws,
+) -> ObjectEnd
+    requires { ⌜ (1 ≤ columns) × (columns ≤ 9) × (repeats ≤ 1023) × UpTo 16777215 (o .start) × (2050 ≤ length (now words)) × (2050 ≤ length (now spare)) ⌝ }
+    ensures { λ r. ⌜ Generates noteOfWord (now (words .exit)) (on (PathObject.generate (PathObject.new f v columns o repeats distance node)) d) 2050 r ⌝ }
+{
+    let g = slider_times::new(f, v, columns, o, repeats, distance, node);
+    path_object::generate(d, g, words, spare)
+}
+
+// By the object's kind, as `convert` goes. The notes stand in `words` in walk order; `spare` is working space.
+pub fn generate(
+    f: Facts,
+    v: PrevValues,
+    columns: u8,
+    o: Object,
+    words: &mut [u64],
+    spare: &mut [u64],
+    d: Draws,
+) -> ObjectEnd
+    requires { ⌜ Asks v columns o (length (now words)) (length (now spare)) ⌝ }
+    ensures { λ r. ⌜ Ends f v columns o d (now (words .exit)) r ⌝ }
+{
+    let kind = o.kind;
+    match kind {
+        Kind::Circle => generate_circle(f, v, columns, o, words, d),
+        Kind::Slider {
+            repeats,
+            distance,
+            node,
+        } => generate_slider(f, v, columns, o, repeats, distance, node, words, spare, d),
+        Kind::Spinner(duration) => end_time_object::generate(d, v, columns, o, duration, words),
+        Kind::Hold(duration) => end_time_object::generate(d, v, columns, o, duration, words),
+    }
+}

@@ -1,0 +1,313 @@
+// Masks of columns, columns of positions, counts of notes and the search for a column, shared by the three generators.
+ghost use mathlib.Core.Path.{_≡_};
+ghost use Prim.Native.Nat.{_-_, _^_, _≤_, _<_};
+ghost use lib.Bits.{bitOr};
+ghost use lib.Count.{ones};
+ghost use Rattle.random.specs.Play.{on};
+ghost use Rattle.mania.specs.Steps.{least, greatest, clamped};
+ghost use Rattle.mania.specs.Sound.{hasFlag};
+ghost use Rattle.mania.specs.PatternType.{contains};
+ghost use Rattle.mania.specs.Pattern.{free, anyFree};
+ghost use Rattle.mania.specs.ManiaObject as ManiaObject;
+ghost use Rattle.mania.specs.PatternGenerator.{randomStart, getColumn, noteCount, getRandomNoteCount, getRandomColumn, nextColumn, stepTo, drawTo, searchOn, findAvailableColumn};
+ghost use Rattle.pattern.specs.Answers.{number};
+use floats::Way;
+use mania::Next;
+use mania::Stair;
+use random::Drawn;
+use random::Draws;
+
+// What a rule that ends in a number gives: that number, or the number of a refusal, and the draws after it.
+pub enum Number {
+    Given(u8, Draws),
+    Refused(u8, Draws),
+}
+
+// A pattern: the mask of its columns, its last column, and how many words of a lent buffer are its notes.
+pub struct Pattern {
+    pub mask: u16,
+    pub last: u8,
+    pub count: usize,
+}
+
+// A pattern, or the number of a refusal, and the draws after it.
+pub enum Placed {
+    Notes(Pattern, Draws),
+    Refused(u8, Draws),
+}
+
+// What an object's generator gives: its notes in walk order, with the mask and last column that the next object meets, and the stair; or the number of
+// a refusal; and the draws after it.
+pub enum ObjectEnd {
+    Made(Pattern, Stair, Draws),
+    Refused(u8, Draws),
+}
+
+// ---- the bits of a convert type and of a sound
+
+pub const FORCE_STACK: u16 = 1;
+
+pub const FORCE_NOT_STACK: u16 = 2;
+
+pub const KEEP_SINGLE: u16 = 4;
+
+pub const LOW_PROBABILITY: u16 = 8;
+
+pub const GATHERED: u16 = 128;
+
+pub const MIRROR: u16 = 256;
+
+pub const REVERSE: u16 = 512;
+
+pub const CYCLE: u16 = 1024;
+
+pub const STAIR: u16 = 2048;
+
+pub const REVERSE_STAIR: u16 = 4096;
+
+pub const WHISTLE: u8 = 2;
+
+pub const FINISH: u8 = 4;
+
+pub const CLAP: u8 = 8;
+
+// ---- floats that are no NaN
+
+// `x.min(y)`
+pub fn min(x: f64, y: f64) -> f64
+    ensures { λ r. ⌜ r ≡ least x y ⌝ }
+{
+    if y < x { y } else { x }
+}
+
+// `x.max(y)`
+pub fn max(x: f64, y: f64) -> f64
+    ensures { λ r. ⌜ r ≡ greatest x y ⌝ }
+{
+    if x < y { y } else { x }
+}
+
+// `x.clamp(low, high)`
+pub fn clamp(low: f64, high: f64, x: f64) -> f64
+    ensures { λ r. ⌜ r ≡ clamped low high x ⌝ }
+{
+    if x < low {
+        low
+    } else if high < x {
+        high
+    } else {
+        x
+    }
+}
+
+// ---- bits
+
+// Whether a sound has one of the named bits.
+pub fn has_flag(sound: u8, bits: u8) -> bool
+    ensures { λ r. ⌜ r ≡ hasFlag sound bits ⌝ }
+{
+    sound & bits != 0
+}
+
+// Whether a convert type has all of the named bits.
+pub fn has_type(flags: u16, bits: u16) -> bool
+    ensures { λ r. ⌜ r ≡ contains flags bits ⌝ }
+{
+    flags & bits == bits
+}
+
+// Whether a column is free.
+pub fn is_free(mask: u16, c: u8) -> bool
+    requires { ⌜ c < 16 ⌝ }
+    ensures { λ r. ⌜ r ≡ free mask c ⌝ }
+{
+    (mask >> c) & 1 == 0
+}
+
+// Whether a column from lower up to, and without, upper is free.
+pub fn any_free(mask: u16, lower: u8, upper: u8) -> bool
+    requires { ⌜ (lower ≤ upper) × (upper ≤ 16) ⌝ }
+    ensures { λ r. ⌜ r ≡ anyFree mask lower (upper - lower) ⌝ }
+{
+    let mut c = lower;
+    while c < upper {
+        if is_free(mask, c) {
+            return true;
+        }
+        c += 1;
+    }
+    false
+}
+
+// A mask with one column more.
+pub fn with_column(mask: u16, c: u8) -> u16
+    requires { ⌜ c < 16 ⌝ }
+    ensures { λ r. ⌜ r ≡ bitOr mask (2 ^ c) ⌝ }
+{
+    mask | (1 << c)
+}
+
+// How many columns a mask has.
+pub fn column_count(mask: u16) -> u32
+    ensures { λ r. ⌜ r ≡ ones mask ⌝ }
+{
+    u16::count_ones(mask)
+}
+
+// ---- columns
+
+// The first column that a search may find.
+pub fn random_start(columns: u8) -> u8
+    ensures { λ r. ⌜ r ≡ randomStart columns ⌝ }
+{
+    if columns == 8 { 1 } else { 0 }
+}
+
+// The column of a position.
+pub fn column(x: f32, total: u8) -> u8
+    requires { ⌜ 0 < total ⌝ }
+    ensures { λ r. ⌜ r ≡ ManiaObject.column x total ⌝ }
+{
+    let n = floats::to_count_f32(x / (512.0 / (total as f32)), Way::Floor);
+    let last = total - 1;
+    if n < last as u32 { n as u8 } else { last }
+}
+
+// The column of a position; of 8 columns one of the last seven.
+pub fn get_column(x: f32, columns: u8) -> u8
+    requires { ⌜ 0 < columns ⌝ }
+    ensures { λ r. ⌜ r ≡ getColumn x columns ⌝ }
+{
+    if columns == 8 {
+        1 + column(x, 7)
+    } else {
+        column(x, columns)
+    }
+}
+
+// A drawn column from lower up to, and without, upper.
+pub fn get_random_column(d: Draws, lower: u8, upper: u8) -> Number
+    requires { ⌜ (lower < upper) × (upper ≤ 9) ⌝ }
+    ensures { λ r. ⌜ number r ≡ on (getRandomColumn lower upper) d ⌝ }
+{
+    let Drawn::Value(v, next) = random::draw(d) else {
+        return Number::Refused(12, d);
+    };
+    let c = random::next_int_range(v, lower, upper);
+    Number::Given(c, next)
+}
+
+// ---- counts of notes
+
+// How many notes a number from 0 to 1 means.
+pub fn note_count(p2: f64, p3: f64, p4: f64, p5: f64, p6: f64, val: f64) -> u8
+    ensures { λ r. ⌜ r ≡ noteCount p2 p3 p4 p5 p6 val ⌝ }
+{
+    if val >= 1.0 - p6 {
+        6
+    } else if val >= 1.0 - p5 {
+        5
+    } else if val >= 1.0 - p4 {
+        4
+    } else if val >= 1.0 - p3 {
+        3
+    } else if val >= 1.0 - p2 {
+        2
+    } else {
+        1
+    }
+}
+
+// A drawn count of notes.
+pub fn get_random_note_count(d: Draws, p2: f64, p3: f64, p4: f64, p5: f64, p6: f64) -> Number
+    ensures { λ r. ⌜ number r ≡ on (getRandomNoteCount p2 p3 p4 p5 p6) d ⌝ }
+{
+    let Drawn::Value(v, next) = random::draw(d) else {
+        return Number::Refused(12, d);
+    };
+    let val = random::next_double(v);
+    let n = note_count(p2, p3, p4, p5, p6, val);
+    Number::Given(n, next)
+}
+
+// ---- the search
+
+// The column after c, and after the last one the first.
+pub fn next_column(columns: u8, c: u8) -> u8
+    requires { ⌜ c < columns ⌝ }
+    ensures { λ r. ⌜ r ≡ nextColumn columns c ⌝ }
+{
+    if c + 1 == columns {
+        random_start(columns)
+    } else {
+        c + 1
+    }
+}
+
+// Steps by one until a free column comes, at most once round the deck.
+fn step_to(d: Draws, columns: u8, taken: u16, initial: u8) -> Number
+    requires { ⌜ (initial < columns) × (columns ≤ 9) ⌝ }
+    ensures { λ r. ⌜ number r ≡ on (stepTo columns columns taken initial) d ⌝ }
+{
+    let mut c = initial;
+    let mut left = columns;
+    while 0 < left {
+        c = next_column(columns, c);
+        if is_free(taken, c) {
+            return Number::Given(c, d);
+        }
+        left = left - 1;
+    }
+    Number::Refused(9, d)
+}
+
+// Draws from lower up to, and without, upper until a free column comes.
+fn draw_to(d: Draws, lower: u8, upper: u8, taken: u16) -> Number
+    requires { ⌜ (lower < upper) × (upper ≤ 9) ⌝ }
+    ensures { λ r. ⌜ number r ≡ on (drawTo lower upper taken) d ⌝ }
+{
+    let mut rest = d;
+    loop {
+        let Drawn::Value(v, next) = random::draw(rest) else {
+            return Number::Refused(12, rest);
+        };
+        let c = random::next_int_range(v, lower, upper);
+        if is_free(taken, c) {
+            return Number::Given(c, next);
+        }
+        rest = next;
+    }
+}
+
+// How a search goes on from a column that is taken.
+fn search_on(d: Draws, next: Next, columns: u8, c: u8, lower: u8, upper: u8, taken: u16) -> Number
+    requires { ⌜ (c < columns) × (columns ≤ 9) × (lower < upper) × (upper ≤ 9) ⌝ }
+    ensures { λ r. ⌜ number r ≡ on (searchOn next columns c lower upper taken) d ⌝ }
+{
+    match next {
+        Next::Draw => draw_to(d, lower, upper, taken),
+        Next::Step => step_to(d, columns, taken, c),
+    }
+}
+
+// The column itself where it is free; else, where lower up to upper has a free one, one by draws or by steps.
+pub fn find_available_column(
+    d: Draws,
+    next: Next,
+    columns: u8,
+    initial: u8,
+    lower: u8,
+    upper: u8,
+    taken: u16,
+) -> Number
+    requires { ⌜ (initial < columns) × (columns ≤ 9) × (lower < upper) × (upper ≤ 9) ⌝ }
+    ensures { λ r. ⌜ number r ≡ on (findAvailableColumn next columns initial lower upper taken) d ⌝ }
+{
+    if is_free(taken, initial) {
+        return Number::Given(initial, d);
+    }
+    if any_free(taken, lower, upper) {
+        return search_on(d, next, columns, initial, lower, upper, taken);
+    }
+    Number::Refused(9, d)
+}

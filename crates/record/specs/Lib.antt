@@ -1,0 +1,12 @@
+-- The job record: its conditions in record order (`Refusal`, `Header`, `Section`, `Object`) and `parse` (`Record`); the same conditions field by field
+-- (`Fields`); what an accepted song is (`Fit`); how points in force are found (`Lookup`); parts of contracts (`Post`); laws for proofs (`Laws`).
+pub mod Refusal
+pub mod Header
+pub mod Section
+pub mod Object
+pub mod Record
+pub mod Lookup
+pub mod Post
+pub mod Fit
+pub mod Fields
+pub mod Laws

@@ -1,0 +1,154 @@
+-- Objects: kind 2, sound 4, x 32, y 32, start 64, and what the kind adds. Assumes nothing.
+use Prim.Native.Nat.{ℕ, zero, suc, _+_, _*_}
+use mathlib.Core.Bool.{false}
+use mathlib.Core.List.{List}
+use lib.IntN.{pos, negsuc}
+use lib.Ieee.{Float, binary32, binary64, ofInt, round, lt}
+use Rattle.bits.specs.Field.{bits, short}
+use Rattle.model.specs.declared.Distance.{Distance}
+use Rattle.model.specs.declared.Distance.the-variants as Distance
+use Rattle.model.specs.declared.NodeSound.{NodeSound}
+use Rattle.model.specs.declared.NodeSound.the-variants as NodeSound
+use Rattle.model.specs.declared.Kind.{Kind}
+use Rattle.model.specs.declared.Kind.the-variants.{Circle, Slider, Spinner, Hold}
+use Rattle.model.specs.declared.Object.{Object}
+use Rattle.model.specs.Totals.{lastStart, slidersAndSpinners}
+use Rattle.record.specs.declared.object.ReadObject.{ReadObject}
+use Rattle.record.specs.declared.object.Scan.{Scan}
+use Rattle.record.specs.declared.object.Scan.the-variants.{Refused, Scanned}
+use Rattle.record.specs.Refusal.{_gives_, _then_, f32Refusal, f64Refusal, f32At, f64At, entriesRefusal, entries, entriesEnd}
+
+-- ---- what a kind adds, from bit q on
+
+-- A slider: repeats 10, a bit and, if it is 1, distance 64; a bit and, if it is 1, the first node sound 4. This is the place of the second bit.
+unfoldable pub nodeBit : List ℕ → ℕ → ℕ
+nodeBit s q = q + 11 + 64 * bits s (q + 10) 1
+
+unfoldable pub sliderEnd : List ℕ → ℕ → ℕ
+unfolding nodeBit
+sliderEnd s q = nodeBit s q + 1 + 4 * bits s (nodeBit s q) 1
+
+-- the distance at bit p, by the bit before it
+unfoldable pub distanceBy : List ℕ → ℕ → ℕ → Distance
+unfolding f64At
+distanceBy s p zero = Distance.Missing
+distanceBy s p (suc b) = Distance.Given (f64At s p)
+
+-- the first node sound at bit p, by the bit before it
+unfoldable pub nodeBy : List ℕ → ℕ → ℕ → NodeSound
+nodeBy s p zero = NodeSound.Missing
+nodeBy s p (suc b) = NodeSound.Given (bits s p 4)
+
+unfoldable pub sliderAt : List ℕ → ℕ → Kind
+unfolding nodeBit distanceBy nodeBy
+sliderAt s q =
+    Slider (bits s q 10) (distanceBy s (q + 11) (bits s (q + 10) 1)) (nodeBy s (nodeBit s q + 1) (bits s (nodeBit s q) 1))
+
+-- by the kind's number: its value, its end, its refusal
+unfoldable pub kindBy : List ℕ → ℕ → ℕ → Kind
+unfolding sliderAt f64At
+kindBy s q zero = Circle
+kindBy s q (suc zero) = sliderAt s q
+kindBy s q (suc (suc zero)) = Spinner (f64At s q)
+kindBy s q (suc (suc (suc k))) = Hold (f64At s q)
+
+unfoldable pub kindEnd : List ℕ → ℕ → ℕ → ℕ
+unfolding sliderEnd
+kindEnd s q zero = q
+kindEnd s q (suc zero) = sliderEnd s q
+kindEnd s q (suc (suc k)) = q + 64
+
+-- starts and durations are from 0 to 16,777,215; distances from 0 to 131,072; positions from −512 to 1,024
+unfoldable pub spanRefusal : List ℕ → ℕ → ℕ
+unfolding ofInt f64Refusal
+spanRefusal s p = f64Refusal s p (ofInt binary64 (pos 0)) (ofInt binary64 (pos 16777215)) 6
+
+unfoldable pub distanceRefusal : List ℕ → ℕ → ℕ → ℕ
+unfolding ofInt f64Refusal
+distanceRefusal s p zero = 0
+distanceRefusal s p (suc b) = f64Refusal s p (ofInt binary64 (pos 0)) (ofInt binary64 (pos 131072)) 6
+
+unfoldable pub positionRefusal : List ℕ → ℕ → ℕ
+unfolding ofInt f32Refusal
+positionRefusal s p = f32Refusal s p (ofInt binary32 (negsuc 511)) (ofInt binary32 (pos 1024)) 6
+
+-- Repeats and the bit after them can only be not whole: one condition at the end of both gives the same number (`Laws.Row.whole-once`).
+unfoldable pub sliderRefusal : List ℕ → ℕ → ℕ
+unfolding nodeBit sliderEnd distanceRefusal
+sliderRefusal s q =
+    short s (q + 11) gives 1
+    then distanceRefusal s (q + 11) (bits s (q + 10) 1)
+    then short s (nodeBit s q + 1) gives 1
+    then short s (sliderEnd s q) gives 1
+
+unfoldable pub kindRefusal : List ℕ → ℕ → ℕ → ℕ
+unfolding sliderRefusal spanRefusal
+kindRefusal s q zero = 0
+kindRefusal s q (suc zero) = sliderRefusal s q
+kindRefusal s q (suc (suc k)) = spanRefusal s q
+
+-- ---- an object at bit p
+
+-- its start
+unfoldable pub startAt : List ℕ → ℕ → Float
+unfolding f64At
+startAt s p = f64At s (p + 70)
+
+unfoldable pub readObject : List ℕ → ℕ → Object
+unfolding kindBy f32At startAt
+readObject s p =
+    record {
+      position = record { x = f32At s (p + 6); y = f32At s (p + 38) };
+      start = startAt s p;
+      sound = bits s (p + 2) 4;
+      kind = kindBy s (p + 134) (bits s p 2);
+    }
+
+unfoldable pub objectEnd : List ℕ → ℕ → ℕ
+unfolding kindEnd
+objectEnd s p = kindEnd s (p + 134) (bits s p 2)
+
+-- the object with the place of the next
+unfoldable pub readAt : List ℕ → ℕ → ReadObject
+unfolding readObject objectEnd
+readAt s p = record { object = readObject s p; next = objectEnd s p }
+
+-- After an object that starts at `before`: starts never fall. Kind and sound can only be not whole: one condition at the end of both gives the same
+-- number (`Laws.Row.whole-once`).
+unfoldable pub objectRefusal : List ℕ → ℕ → Float → ℕ
+unfolding positionRefusal spanRefusal kindRefusal startAt lt
+objectRefusal s p before =
+    short s (p + 6) gives 1
+    then positionRefusal s (p + 6)
+    then positionRefusal s (p + 38)
+    then spanRefusal s (p + 70)
+    then lt (startAt s p) before gives 6
+    then kindRefusal s (p + 134) (bits s p 2)
+
+-- ---- n objects from bit p on
+
+-- the start that stands before the first: none is below it
+unfoldable pub zeroStart : Float
+unfolding round
+zeroStart = round binary64 false 0 1
+
+unfoldable pub objectsRefusal : List ℕ → ℕ → ℕ → ℕ
+unfolding objectRefusal objectEnd startAt entriesRefusal zeroStart
+objectsRefusal s p n = entriesRefusal (objectRefusal s) (objectEnd s) (startAt s) p zeroStart n
+
+unfoldable pub objects : List ℕ → ℕ → ℕ → List Object
+unfolding readObject objectEnd entries
+objects s p n = entries (readObject s) (objectEnd s) p n
+
+unfoldable pub objectsEnd : List ℕ → ℕ → ℕ → ℕ
+unfolding objectEnd entriesEnd
+objectsEnd s p n = entriesEnd (objectEnd s) p n
+
+-- what the check of the objects returns: the number, or where they end, the last start, and how many are sliders and spinners
+abbrev pub scanBy : ℕ → ℕ → Float → ℕ → Scan
+scanBy zero end last long = Scanned end last long
+scanBy (suc n) end last long = Refused (suc n)
+
+unfoldable pub scan : List ℕ → ℕ → ℕ → Scan
+unfolding objectsRefusal objectsEnd objects zeroStart
+scan s p n = scanBy (objectsRefusal s p n) (objectsEnd s p n) (lastStart zeroStart (objects s p n)) (slidersAndSpinners (objects s p n))

@@ -1,0 +1,123 @@
+// The header: 256 bits at fixed places.
+ghost use mathlib.Core.Path.{_≡_};
+ghost use Prim.Native.Nat.{_≤_};
+ghost use Rattle.record.specs.Header.{settingRefusal, multiplierRefusal, headerRefusal, keysOf, settingsOf, countsOf, SmallCounts};
+ghost use Rattle.record.specs.Record.{placesOf, NearPlaces};
+use crate::refusal::f32_at;
+use crate::refusal::f32_refusal;
+use crate::refusal::f64_at;
+use crate::refusal::f64_refusal;
+use crate::refusal::first;
+use crate::refusal::refuse;
+use bits::is_short;
+use bits::read_bits;
+use model::Settings;
+
+// How many entries each list has.
+pub struct Counts {
+    pub breaks: usize,
+    pub timing: usize,
+    pub difficulty: usize,
+    pub effect: usize,
+    pub objects: usize,
+}
+
+// Where each list starts, in bits; the breaks start at 256.
+pub struct Places {
+    pub timing: usize,
+    pub difficulty: usize,
+    pub effect: usize,
+    pub objects: usize,
+}
+
+fn setting_refusal(s: &[u8], at: usize) -> u8
+    requires { ⌜ at ≤ 1000000000 ⌝ }
+    ensures { λ r. ⌜ r ≡ settingRefusal (now (s .entry)) at ⌝ }
+{
+    f32_refusal(s, at, 0.0, 10.0, 4)
+}
+
+fn multiplier_refusal(s: &[u8]) -> u8
+    ensures { λ r. ⌜ r ≡ multiplierRefusal (now (s .entry)) ⌝ }
+{
+    f64_refusal(s, 136, 0.4, 3.6, 4)
+}
+
+pub fn header_refusal(s: &[u8]) -> u8
+    ensures { λ r. ⌜ r ≡ headerRefusal (now (s .entry)) ⌝ }
+{
+    let version_short = refuse(is_short(s, 4), 1);
+    let version = refuse(read_bits(s, 0, 4) != 1, 2);
+    let keys_short = refuse(is_short(s, 8), 1);
+    let keys = refuse(read_bits(s, 4, 4) > 9, 3);
+    let hp = setting_refusal(s, 8);
+    let cs = setting_refusal(s, 40);
+    let od = setting_refusal(s, 72);
+    let ar = setting_refusal(s, 104);
+    let multiplier = multiplier_refusal(s);
+    let counts = refuse(is_short(s, 256), 1);
+    let settings = first(
+        hp,
+        first(cs, first(od, first(ar, first(multiplier, counts)))),
+    );
+    first(
+        version_short,
+        first(version, first(keys_short, first(keys, settings))),
+    )
+}
+
+pub fn keys_of(s: &[u8]) -> u8
+    ensures { λ r. ⌜ r ≡ keysOf (now (s .entry)) ⌝ }
+{
+    read_bits(s, 4, 4) as u8
+}
+
+pub fn settings_of(s: &[u8]) -> Settings
+    ensures { λ r. ⌜ r ≡ settingsOf (now (s .entry)) ⌝ }
+{
+    let hp = f32_at(s, 8);
+    let cs = f32_at(s, 40);
+    let od = f32_at(s, 72);
+    let ar = f32_at(s, 104);
+    let multiplier = f64_at(s, 136);
+    Settings {
+        hp,
+        cs,
+        od,
+        ar,
+        multiplier,
+    }
+}
+
+pub fn counts_of(s: &[u8]) -> Counts
+    ensures { λ r. ⌜ (r ≡ countsOf (now (s .entry))) × SmallCounts r ⌝ }
+{
+    let breaks = read_bits(s, 200, 8) as usize;
+    let timing = read_bits(s, 208, 12) as usize;
+    let difficulty = read_bits(s, 220, 12) as usize;
+    let effect = read_bits(s, 232, 12) as usize;
+    let objects = read_bits(s, 244, 12) as usize;
+    Counts {
+        breaks,
+        timing,
+        difficulty,
+        effect,
+        objects,
+    }
+}
+
+pub fn places_of(n: Counts) -> Places
+    requires { ⌜ SmallCounts n ⌝ }
+    ensures { λ r. ⌜ (r ≡ placesOf n) × NearPlaces r ⌝ }
+{
+    let timing = 256 + 128 * n.breaks;
+    let difficulty = timing + 128 * n.timing;
+    let effect = difficulty + 128 * n.difficulty;
+    let objects = effect + 65 * n.effect;
+    Places {
+        timing,
+        difficulty,
+        effect,
+        objects,
+    }
+}

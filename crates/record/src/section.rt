@@ -1,0 +1,131 @@
+// The four lists whose entries have one width: breaks, timing points, difficulty points and effect points.
+ghost use mathlib.Core.Path.{_≡_};
+ghost use mathlib.Core.Bool.{false};
+ghost use Prim.Native.Nat.{_≤_};
+ghost use lib.Ieee.{binary64, round};
+ghost use Rattle.model.specs.Totals.{breakTime};
+ghost use Rattle.record.specs.Section.{widthOf, timeRefusal, beatRefusal, velocityRefusal, risingRefusal, entryRefusal, sectionRefusal, noTime, breaks};
+use crate::refusal::f64_at;
+use crate::refusal::f64_refusal;
+use crate::refusal::first;
+use crate::refusal::refuse;
+use bits::is_short;
+
+pub enum Section {
+    Breaks,
+    TimingPoints,
+    DifficultyPoints,
+    EffectPoints,
+}
+
+// The bits of an entry.
+pub fn width_of(section: Section) -> usize
+    ensures { λ r. ⌜ r ≡ widthOf section ⌝ }
+{
+    match section {
+        Section::Breaks => 128,
+        Section::TimingPoints => 128,
+        Section::DifficultyPoints => 128,
+        Section::EffectPoints => 65,
+    }
+}
+
+fn time_refusal(s: &[u8], at: usize) -> u8
+    requires { ⌜ at ≤ 1000000000 ⌝ }
+    ensures { λ r. ⌜ r ≡ timeRefusal (now (s .entry)) at ⌝ }
+{
+    f64_refusal(s, at, -16777215.0, 16777215.0, 5)
+}
+
+fn beat_refusal(s: &[u8], at: usize) -> u8
+    requires { ⌜ at ≤ 1000000000 ⌝ }
+    ensures { λ r. ⌜ r ≡ beatRefusal (now (s .entry)) at ⌝ }
+{
+    f64_refusal(s, at, 6.0, 60000.0, 5)
+}
+
+fn velocity_refusal(s: &[u8], at: usize) -> u8
+    requires { ⌜ at ≤ 1000000000 ⌝ }
+    ensures { λ r. ⌜ r ≡ velocityRefusal (now (s .entry)) at ⌝ }
+{
+    f64_refusal(s, at, 0.1, 10.0, 5)
+}
+
+// A point's time, after a point at the time `before`.
+fn rising_refusal(s: &[u8], at: usize, before: f64) -> u8
+    requires { ⌜ at ≤ 900000000 ⌝ }
+    ensures { λ r. ⌜ r ≡ risingRefusal (now (s .entry)) at before ⌝ }
+{
+    let time = time_refusal(s, at);
+    let order = refuse(!(before < f64_at(s, at)), 5);
+    first(time, order)
+}
+
+fn break_refusal(s: &[u8], at: usize) -> u8
+    requires { ⌜ at ≤ 900000000 ⌝ }
+    ensures { λ r. ⌜ r ≡ entryRefusal Section.Breaks (now (s .entry)) at noTime ⌝ }
+{
+    let start = time_refusal(s, at);
+    let end = time_refusal(s, at + 64);
+    let order = refuse(f64_at(s, at + 64) < f64_at(s, at), 5);
+    first(start, first(end, order))
+}
+
+// The entry at bit `at`, after one at the time `before`.
+fn entry_refusal(section: Section, s: &[u8], at: usize, before: f64) -> u8
+    requires { ⌜ at ≤ 900000000 ⌝ }
+    ensures { λ r. ⌜ r ≡ entryRefusal section (now (s .entry)) at before ⌝ }
+{
+    match section {
+        Section::Breaks => break_refusal(s, at),
+        Section::TimingPoints => first(rising_refusal(s, at, before), beat_refusal(s, at + 64)),
+        Section::DifficultyPoints => {
+            first(rising_refusal(s, at, before), velocity_refusal(s, at + 64))
+        }
+        Section::EffectPoints => {
+            first(
+                rising_refusal(s, at, before),
+                refuse(is_short(s, at + 65), 1),
+            )
+        }
+    }
+}
+
+// `count` entries from bit `at` on.
+pub fn section_refusal(section: Section, s: &[u8], at: usize, count: usize) -> u8
+    requires { ⌜ (at ≤ 100000000) × (count ≤ 4095) ⌝ }
+    ensures { λ r. ⌜ r ≡ sectionRefusal section (now (s .entry)) at count ⌝ }
+{
+    let width = width_of(section);
+    let mut here = at;
+    let mut before: f64 = -16777216.0;
+    let mut left = count;
+    while left > 0 {
+        let refusal = entry_refusal(section, s, here, before);
+        if refusal != 0 {
+            return refusal;
+        }
+        before = f64_at(s, here);
+        here += width;
+        left -= 1;
+    }
+    0
+}
+
+// How long `count` breaks from bit `at` on last together, summed in order from 0.
+pub fn total_break_time(s: &[u8], at: usize, count: usize) -> f64
+    requires { ⌜ (at ≤ 100000000) × (count ≤ 4095) ⌝ }
+    ensures { λ r. ⌜ r ≡ breakTime (round binary64 false 0 1) (breaks (now (s .entry)) at count) ⌝ }
+{
+    let mut here = at;
+    let mut sum: f64 = 0.0;
+    let mut left = count;
+    while left > 0 {
+        let end = f64_at(s, here + 64);
+        let start = f64_at(s, here);
+        sum = sum + (end - start);
+        here += 128;
+        left -= 1;
+    }
+    sum
+}

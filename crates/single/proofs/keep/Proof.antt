@@ -1,0 +1,41 @@
+-- `single::keep` meets its contract. Assumes nothing.
+use mathlib.Core.Path.{refl, _∙_}
+use Prim.Native.Nat.{_*_}
+use native.Mathlib.Omega.{arith}
+use lib.ListN.{length}
+use borrow.Author.Tests.{lt-ltb, le-ltb}
+use Rattle.single.specs.Ends.{full, kept}
+use Rattle.single.proofs.Kept.{at-start}
+use borrow.Author.Needs.{needs}
+use Rattle.single.proofs.keep.Statement.{statement}
+use Rattle.single.proofs.keep.Tie as tie
+
+mul-if1 : tie.Need-mul-if1
+mul-if1 c = search needs
+
+returns : tie.Need-returns
+returns c =
+    let a = c .before .before .before .args in
+    full (lt-ltb (length (a .notes .now)) (17 * a .p .count) (omega arith)) refl refl
+
+put-notes-requires : tie.Need-put-notes-requires
+put-notes-requires c κs = search needs
+
+cast-t17 : tie.Need-cast-t17
+cast-t17 c = search needs
+
+sub-t18 : tie.Need-sub-t18
+sub-t18 c = search needs
+
+same-length : tie.Need-same-length
+same-length c = search needs
+
+returns-2 : tie.Need-returns-2
+returns-2 c =
+    let k = c .before .before .before .before in
+    let a = k .before .before .before .before .before .args in
+    kept (le-ltb (length (a .notes .now)) (17 * a .p .count) (omega arith)) (k .put-notes .ensures ∙ at-start (a .notes .now) _) refl
+
+pub keep-spec : {M : Type 1} → statement M
+keep-spec =
+    tie.close (tie.spec mul-if1 returns put-notes-requires cast-t17 sub-t18 same-length returns-2)

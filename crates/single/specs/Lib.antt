@@ -1,0 +1,2 @@
+-- What the answers of the single-object entry mean.
+pub mod Ends

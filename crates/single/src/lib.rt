@@ -1,0 +1,94 @@
+// The single-object entry: one object, its facts and previous values, a generator state and an allowance; its notes are written from the buffer's start.
+ghost use mathlib.Core.Path.{_≡_};
+ghost use Prim.Native.Nat.{_≤_};
+ghost use lib.ListN.{length};
+ghost use Rattle.mania.specs.Single.{entryRefusal, singleObject};
+ghost use Rattle.single.specs.Ends.{singleEnd, Keeps};
+use mania::Facts;
+use mania::PrevValues;
+use mania::Stair;
+use model::Object;
+use pattern::ObjectEnd;
+use pattern::Pattern;
+use random::Draws;
+use random::Random;
+
+// How the entry ends: the number of notes, the new mask, last column and stair, the state and the draws; or a refusal's number and the state that was lent.
+pub enum SingleEnd {
+    Made(u32, u16, u8, Stair, Random, u32),
+    Refused(u8, Random),
+}
+
+// Writes the notes that an object made, where the buffer has room for them.
+fn keep(
+    o: Object,
+    words: &[u64],
+    p: Pattern,
+    stair: Stair,
+    lent: Random,
+    allowance: u32,
+    e: Draws,
+    notes: &mut [u8],
+) -> SingleEnd
+    requires { ⌜ (p .count ≤ 2050) × (2050 ≤ length (now words)) × (e .left ≤ allowance) ⌝ }
+    ensures { λ r. ⌜ Keeps (now (notes .entry)) (now (notes .exit)) (now (words .entry)) o p stair lent allowance e r ⌝ }
+{
+    let count = p.count;
+    if notes.len() < 17 * count {
+        return SingleEnd::Refused(11, lent);
+    }
+    notes::put_notes(o, words, count, notes, 0);
+    let random = e.random;
+    SingleEnd::Made(
+        count as u32,
+        p.mask,
+        p.last,
+        stair,
+        random,
+        allowance - e.left,
+    )
+}
+
+// The rule of an object that passed the checks.
+fn generate(
+    f: Facts,
+    v: PrevValues,
+    columns: u8,
+    o: Object,
+    lent: Random,
+    allowance: u32,
+    notes: &mut [u8],
+) -> SingleEnd
+    requires { ⌜ entryRefusal f v columns o ≡ 0 ⌝ }
+    ensures { λ r. ⌜ singleEnd (now (notes .exit)) r ≡ singleObject f v columns o lent allowance (now (notes .entry)) ⌝ }
+{
+    let mut words: [u64; 2050] = [0; 2050];
+    let mut spare: [u64; 2050] = [0; 2050];
+    let d = Draws {
+        random: lent,
+        left: allowance,
+    };
+    match object::generate(f, v, columns, o, &mut words, &mut spare, d) {
+        ObjectEnd::Made(p, stair, e) => keep(o, &words, p, stair, lent, allowance, e, notes),
+        ObjectEnd::Refused(n, e) => SingleEnd::Refused(n, lent),
+    }
+}
+
+// The checks in their order, and then the object's rule.
+pub fn convert_object(
+    f: Facts,
+    v: PrevValues,
+    columns: u8,
+    o: Object,
+    lent: Random,
+    allowance: u32,
+    notes: &mut [u8],
+) -> SingleEnd
+    ensures { λ r. ⌜ singleEnd (now (notes .exit)) r ≡ singleObject f v columns o lent allowance (now (notes .entry)) ⌝ }
+{
+    let number = entry::entry_refusal(f, v, columns, o);
+    if number != 0 {
+        return SingleEnd::Refused(number, lent);
+    }
+    generate(f, v, columns, o, lent, allowance, notes)
+}

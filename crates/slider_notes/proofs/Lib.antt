@@ -1,0 +1,4 @@
+pub mod Words
+pub mod Decks
+pub mod Loops
+pub mod Order

@@ -1,0 +1,192 @@
+-- The loop over the objects: what holds at its head. Assumes nothing.
+use mathlib.Core.Path.{_≡_, refl, sym, ap, _∙_, subst}
+use Prim.Native.Nat.{ℕ, suc, _+_, _-_, _*_, _^_, _≤_, _<_}
+use native.Mathlib.Nat.{add-zero, sub-zero}
+use native.Mathlib.Numerals.{add-one}
+use native.Mathlib.Omega.{arith}
+use mathlib.Core.Bool.{true, false}
+use mathlib.Core.List.{List, [], _∷_, _++_, map, map-append, append-nil, append-assoc}
+use lib.Dec.{ltb}
+use lib.Pow.{pow-pos}
+use lib.ListN.{length, take, drop, length-append, length-map, take-append-drop}
+use borrow.Author.Tests.{ltb-false}
+use Rattle.random.specs.Play.{Answer, found, refused}
+use Rattle.random.specs.declared.Draws.{Draws}
+use Rattle.model.specs.declared.Object.{Object}
+use Rattle.model.specs.Each.{Each}
+use Rattle.record.specs.Record.{songOf}
+use Rattle.record.specs.Refusal.{entries}
+use Rattle.record.specs.Object.{readObject, objectEnd, objects}
+use Rattle.record.specs.Laws.Objects.{objects-cons}
+use Rattle.chart.specs.Bytes.{splice}
+use Rattle.chart.specs.Chart as Bytes
+use Rattle.chart.specs.Laws.Bytes.{splice-next}
+use Rattle.chart.specs.Laws.Notes.{length-body, body-append}
+use Rattle.mania.specs.declared.Note.{Note}
+use Rattle.mania.specs.Chart.{body, patternOf, inWalkOrder}
+use Rattle.mania.specs.Convert.{afterObject, beginning}
+use Rattle.mania.specs.Convert as Convert
+use Rattle.mania.specs.Walked.{Stop, stop, onWalk}
+use Rattle.mania.specs.Laws.Walks.{before, walk-none, walk-refused, walk-full, walk-made}
+use Rattle.density.specs.Queued.{Held}
+use Rattle.object.specs.Range.{InRange}
+use Rattle.walk.specs.declared.Song.{Song}
+use Rattle.walk.specs.declared.Walk.{Walk}
+use Rattle.walk.specs.Kept.{walkOf}
+use Rattle.walk.specs.Steps.{Sound, Next, Stops, refuses, full, rule, All}
+
+-- ---- notes in walk order, and their bytes
+
+order-more : (nss : List (List Note)) (ns : List Note) → inWalkOrder (nss ++ ns ∷ []) ≡ inWalkOrder nss ++ ns
+unfolding inWalkOrder
+order-more [] ns = append-nil ns
+order-more (ms ∷ nss) ns = ap (λ (x : List Note). ms ++ x) (order-more nss ns) ∙ sym (append-assoc ms (inWalkOrder nss) ns)
+
+length-bytes : (ns : List Note) → length (body ns) ≡ 17 * length ns
+unfolding body
+length-bytes ns = length-body (map patternOf ns) ∙ ap (λ (n : ℕ). 17 * n) (length-map ns patternOf)
+
+bytes-append : (ms ns : List Note) → body (ms ++ ns) ≡ body ms ++ body ns
+unfolding body
+bytes-append ms ns = ap Bytes.body (map-append patternOf ms ns) ∙ body-append (map patternOf ms) (map patternOf ns)
+
+none-written : (s : List ℕ) (i : ℕ) → s ≡ splice s i (body [])
+unfolding splice body Bytes.body
+none-written s i = sym (ap (λ (k : ℕ). take i s ++ drop k s) (add-zero i) ∙ take-append-drop i s)
+
+-- ---- the loop's head
+
+-- before object i: the notes of the objects passed, and the rule of the rest
+pub record At (bytes part entry chart : List ℕ) (g : Song) (start count : ℕ) (d : Draws) (w : Walk) (here : ℕ) (rest : Draws) (i : ℕ) : Type 0 where
+  pub nss : List (List Note)
+  pub passed : i ≤ count
+  pub says : before nss (onWalk (Convert.walk (songOf bytes) (g .difficulty) (g .columns) (length entry) i (walkOf w) (objects part here (count - i))) rest)
+      ≡ rule bytes part g (length entry) start count d
+  pub written : chart ≡ splice entry 8 (body (inWalkOrder nss))
+  pub number : w .notes ≡ length (inWalkOrder nss)
+  pub few : w .notes ≤ 2050 * i
+  pub room : 8 + 17 * w .notes ≤ length entry
+  pub range : Each InRange (objects part here (count - i))
+  pub sound : Sound (g .columns) w
+  pub near : here ≤ 7 + 214 * i
+
+before-none : (a : Answer Stop (List (List Note))) → before [] a ≡ a
+unfolding before
+before-none (found mss d) = refl
+before-none (refused r d) = refl
+
+module _ (bytes part entry : List ℕ) (g : Song) (start count : ℕ) (d : Draws) where
+  pub at-start : (w : Walk) → walkOf w ≡ beginning → Sound (g .columns) w → start ≤ 7 → 8 ≤ length entry → Each InRange (objects part start count)
+      → At bytes part entry entry g start count d w start d 0
+  unfolding inWalkOrder walkOf beginning
+  at-start w e s n r h =
+      let zero-notes : w .notes ≡ 0 = ap (λ (x : Convert.Walk). x .notes) e in
+      record {
+        nss = [];
+        passed = omega arith;
+        says =
+            before-none _
+            ∙ ap (λ (x : Convert.Walk). onWalk (Convert.walk (songOf bytes) (g .difficulty) (g .columns) (length entry) 0 x (objects part start (count - 0))) d) e
+            ∙ ap (λ (k : ℕ). rule bytes part g (length entry) start k d) (sub-zero count);
+        written = none-written entry 8;
+        number = zero-notes;
+        few = omega arith;
+        room = omega arith;
+        range = subst (λ (k : ℕ). Each InRange (objects part start k)) (sym (sub-zero count)) h;
+        sound = s;
+        near = omega arith;
+      }
+
+  module _ (chart : List ℕ) (w : Walk) (here : ℕ) (rest : Draws) (i : ℕ) (l : i < count) (a : At bytes part entry chart g start count d w here rest i) where
+    abbrev o : Object
+    o = readObject part here
+
+    abbrev os : List Object
+    os = objects part (objectEnd part here) (count - (i + 1))
+
+    split : objects part here (count - i) ≡ o ∷ os
+    split =
+        let p : 0 < count - i = omega arith in
+        let q : count - i - 1 ≡ count - (i + 1) = omega arith in
+        objects-cons part here (count - i) p ∙ ap (λ (k : ℕ). o ∷ objects part (objectEnd part here) k) q
+
+    ranges : Each InRange (o ∷ os)
+    ranges = subst (Each InRange) split (a .range)
+
+    pub in-range : InRange o
+    in-range = ranges .0
+
+    from-here : before (a .nss) (onWalk (Convert.walk (songOf bytes) (g .difficulty) (g .columns) (length entry) i (walkOf w) (o ∷ os)) rest)
+        ≡ rule bytes part g (length entry) start count d
+    from-here =
+        ap (λ (x : List Object). before (a .nss) (onWalk (Convert.walk (songOf bytes) (g .difficulty) (g .columns) (length entry) i (walkOf w) x) rest)) (sym split)
+        ∙ a .says
+
+    pub at-refused : (n : ℕ) (e : Draws) → length chart ≡ length entry → Stops bytes chart g w o rest n e → rule bytes part g (length entry) start count d ≡ refused (stop i n) e
+    unfolding walkOf
+    at-refused n e z (refuses h) = sym from-here ∙ walk-refused (songOf bytes) (g .difficulty) (g .columns) (length entry) i (walkOf w) o os rest n e h (a .nss)
+    at-refused n e z (full made h t k) =
+        sym from-here
+        ∙ walk-full (songOf bytes) (g .difficulty) (g .columns) (length entry) i (walkOf w) o os rest made e h (subst (λ (f : ℕ). ltb f (8 + 17 * (w .notes + length (made .notes))) ≡ true) z t) (a .nss)
+        ∙ ap (λ (x : ℕ). refused (stop i x) e) (sym k)
+
+    pub at-next : (exit : List ℕ) (x : Walk) (next : ℕ) (e : Draws) → length chart ≡ length entry → Next bytes chart exit g w o rest x e
+        → next ≡ objectEnd part here → next ≤ here + 214 → At bytes part entry exit g start count d x next e (i + 1)
+    unfolding walkOf afterObject
+    at-next exit x next e z k at far =
+        let ns = k .made .notes in
+        let room : ltb (length entry) (8 + 17 * (w .notes + length ns)) ≡ false = subst (λ (f : ℕ). ltb f (8 + 17 * (w .notes + length ns)) ≡ false) z (k .room) in
+        let notes : x .notes ≡ w .notes + length ns = ap (λ (y : Convert.Walk). y .notes) (k .after) in
+        let sum : length (inWalkOrder (a .nss ++ ns ∷ [])) ≡ length (inWalkOrder (a .nss)) + length ns =
+        ap length (order-more (a .nss) ns) ∙ length-append (inWalkOrder (a .nss)) ns in
+        let fits : 8 + 17 * (w .notes + length ns) ≤ length entry = ltb-false (length entry) (8 + 17 * (w .notes + length ns)) room in
+        record {
+          nss = a .nss ++ ns ∷ [];
+          passed = omega arith;
+          says =
+              ap (λ (j : ℕ). before (a .nss ++ ns ∷ []) (onWalk (Convert.walk (songOf bytes) (g .difficulty) (g .columns) (length entry) j (walkOf x) (objects part next (count - (i + 1)))) e)) (add-one i)
+              ∙ ap (λ (p : ℕ). before (a .nss ++ ns ∷ []) (onWalk (Convert.walk (songOf bytes) (g .difficulty) (g .columns) (length entry) (suc i) (walkOf x) (objects part p (count - (i + 1)))) e)) at
+              ∙ ap (λ (y : Convert.Walk). before (a .nss ++ ns ∷ []) (onWalk (Convert.walk (songOf bytes) (g .difficulty) (g .columns) (length entry) (suc i) y os) e)) (k .after)
+              ∙ sym (walk-made (songOf bytes) (g .difficulty) (g .columns) (length entry) i (walkOf w) o os rest (k .made) e (k .says) room (a .nss))
+              ∙ from-here;
+          written =
+              k .written
+              ∙ ap (λ (s : List ℕ). splice s (8 + 17 * w .notes) (body ns)) (a .written)
+              ∙ splice-next entry 8 (body (inWalkOrder (a .nss))) (8 + 17 * w .notes) (body ns)
+              (ap (λ (n : ℕ). 8 + n) (ap (λ (n : ℕ). 17 * n) (a .number) ∙ sym (length-bytes (inWalkOrder (a .nss)))))
+              (omega (arith, length-bytes ns))
+              ∙ ap (splice entry 8) (sym (ap body (order-more (a .nss) ns) ∙ bytes-append (inWalkOrder (a .nss)) ns));
+          number = omega (arith, notes, sum, a .number);
+          few = omega (arith, notes, k .few, a .few);
+          room = omega (arith, notes, fits);
+          range = subst (λ (p : ℕ). Each InRange (objects part p (count - (i + 1)))) (sym at) (ranges .1);
+          sound = k .sound;
+          near = omega (arith, far, a .near);
+        }
+
+  pub at-end : (chart : List ℕ) (w : Walk) (here : ℕ) (rest : Draws) (i : ℕ) → count ≤ i → At bytes part entry chart g start count d w here rest i
+      → All bytes part entry chart g start count d (w .notes) rest
+  unfolding objects entries
+  at-end chart w here rest i h a =
+      let none : count - i ≡ 0 = omega (arith, a .passed) in
+      record {
+        nss = a .nss;
+        says =
+            sym (a .says)
+            ∙ ap (λ (k : ℕ). before (a .nss) (onWalk (Convert.walk (songOf bytes) (g .difficulty) (g .columns) (length entry) i (walkOf w) (objects part here k)) rest)) none
+            ∙ walk-none (songOf bytes) (g .difficulty) (g .columns) (length entry) i (walkOf w) (a .nss) rest;
+        written = a .written;
+        number = a .number;
+        few = omega (arith, a .few, a .passed);
+        room = a .room;
+      }
+
+-- the walk begins with an empty pattern
+pub begun : (columns : ℕ) (w : Walk) → walkOf w ≡ beginning → Held (w .density) → 1 ≤ columns → Sound columns w
+unfolding walkOf beginning
+begun columns w e h l =
+    record {
+      held = h;
+      mask = subst (λ (x : Convert.Walk). x .prev .mask < 2 ^ columns) (sym e) (pow-pos columns);
+      last = subst (λ (x : Convert.Walk). x .prev .last < columns) (sym e) l;
+    }

@@ -1,0 +1,197 @@
+//! Writes the jobs that the program `vectors` replays, with the unchanged Rust's answers. Arguments: the file, the seed (1).
+//!
+//! First jobs that meet each branch that a job can reach, each answer and each column count, the smallest found; then small random
+//! jobs. A file is its jobs one after the other, numbers with the highest byte first: record length 32, record, buffer length 32,
+//! allowance 32, number 8 (0: a chart). A chart adds its length 32 and its bytes; a refusal its object 32 and its draws 32.
+//! Buffers are lent as `lent_bytes` makes them. Standard output is what `vectors` has to print; standard error names the branches that
+//! no job of the list meets.
+
+use std::process::ExitCode;
+
+use compare::{Job, lent_bytes};
+use entry::{JobEnd, Kind};
+use jobs::{Need, Object, Rng, Song};
+use second::hits;
+
+const JOBS: usize = 640;
+const MOST_BYTES: usize = 300_000;
+/// The program's chart buffer.
+const MOST_BUFFER: usize = 65_536;
+const TRIES: usize = 60_000;
+
+/// A job with its answer and what it met: branches, then refusals by number, then charts by columns.
+struct Answered {
+    job: Job,
+    end: JobEnd,
+    chart: Vec<u8>,
+    met: Vec<usize>,
+}
+
+impl Answered {
+    fn new(job: Job) -> Self {
+        let mut buffer = job.buffer.clone();
+        hits::take();
+        let end = second::job(&job.record, &mut buffer, job.allowance);
+        let mut met: Vec<usize> = (0..).zip(hits::take()).filter(|(_, count)| *count > 0).map(|(row, _)| row).collect();
+        let mut buffer = job.buffer.clone();
+        assert_eq!(end, reference::job(&job.record, &mut buffer, job.allowance), "the two implementations differ");
+        let chart = match end {
+            JobEnd::Chart { length } => {
+                met.push(hits::NAMES.len() + 16 + usize::from(buffer[0] & 15));
+                buffer[..length].to_vec()
+            }
+            JobEnd::Refused { number, .. } => {
+                met.push(hits::NAMES.len() + usize::from(number));
+                Vec::new()
+            }
+        };
+
+        Self { job, end, chart, met }
+    }
+
+    fn bytes(&self) -> Vec<u8> {
+        let mut bytes = Vec::new();
+        let mut number = |value: usize| bytes.extend((value as u32).to_be_bytes());
+        number(self.job.record.len());
+        bytes.extend(&self.job.record);
+        let mut number = |value: usize| bytes.extend((value as u32).to_be_bytes());
+        number(self.job.buffer.len());
+        number(self.job.allowance as usize);
+        match self.end {
+            JobEnd::Chart { length } => {
+                bytes.push(0);
+                bytes.extend((length as u32).to_be_bytes());
+                bytes.extend(&self.chart);
+            }
+            JobEnd::Refused { number, object, draws } => {
+                bytes.push(number);
+                bytes.extend(object.to_be_bytes());
+                bytes.extend(draws.to_be_bytes());
+            }
+        }
+
+        bytes
+    }
+}
+
+fn slider(start: f64, repeats: u32, distance: f64) -> Object {
+    let kind = Kind::Slider { repeats, distance: Some(distance), node_sound: None };
+
+    Object { kind, sound: 0, x: 100.0, y: 100.0, start }
+}
+
+fn job(song: &Song, buffer: usize, allowance: u32) -> Job {
+    Job { record: song.bytes(), buffer: lent_bytes(buffer), allowance }
+}
+
+/// Long sliders: the latest end that is taken and the first that is not, and the longest row of notes.
+fn long_sliders() -> Vec<Job> {
+    let mut list = Vec::new();
+    for columns in [4, 8] {
+        let song = |object| Song { key_choice: columns, objects: vec![object], ..Song::default() };
+        // 10 ms a pixel without points
+        list.push(job(&song(slider(16_777_215.0, 0, 131_072.0)), 400, 100));
+        list.push(job(&song(slider(16_777_215.0, 127, 13_107.2)), 400, 100));
+        list.push(job(&song(slider(16_777_215.0, 127, 13_107.3)), 400, 100));
+        list.push(job(&song(slider(0.0, 1023, 10.0)), 8 + 17 * 1100, 5000));
+        let slow = Song { timing: vec![(0.0, 60_000.0)], difficulty: vec![(0.0, 0.1)], ..song(slider(0.0, 0, 131_072.0)) };
+        list.push(job(&slow, 400, 100));
+    }
+
+    list
+}
+
+/// A random job; one in four is damaged. Half of the others get a key choice, most often 8, which has rules of its own.
+fn random(rng: &mut Rng, plenty: &mut [u8]) -> Option<Job> {
+    let damaged = rng.percent(25);
+    let mut record = if damaged { jobs::damaged(rng) } else { jobs::record(rng) };
+    if !damaged && rng.percent(50) {
+        record[0] = 0x10 + if rng.percent(40) { 8 } else { rng.between(1, 9) as u8 };
+    }
+    let need = match second::job(&record, plenty, 1_000_000) {
+        JobEnd::Chart { length } => {
+            let draws = second::read_chart(&plenty[..length]).expect("a written chart is read").draws;
+            Some(Need { draws, length })
+        }
+        JobEnd::Refused { .. } => None,
+    };
+    let (allowance, length) = jobs::lent(rng, need);
+
+    (length <= MOST_BUFFER).then(|| Job { record, buffer: lent_bytes(length), allowance })
+}
+
+fn main() -> ExitCode {
+    let mut arguments = std::env::args().skip(1);
+    let Some(path) = arguments.next() else {
+        eprintln!("usage: answers FILE [SEED]");
+        return ExitCode::from(2);
+    };
+    let seed = arguments.next().and_then(|text| text.parse().ok()).unwrap_or(1);
+    let mut rng = Rng::new(seed);
+    let mut plenty = vec![0; compare::LARGEST];
+    hits::start();
+
+    let rows = hits::NAMES.len() + 32;
+    let mut list: Vec<Answered> = long_sliders().into_iter().map(Answered::new).collect();
+    let tried: Vec<Answered> = (0..TRIES).filter_map(|_| random(&mut rng, &mut plenty)).map(Answered::new).collect();
+    let sizes: Vec<usize> = tried.iter().map(|answered| answered.bytes().len()).collect();
+    let mut met = vec![false; rows];
+    let mut kept = vec![false; tried.len()];
+
+    // the smallest job of each row that no kept job meets, the rarest rows first
+    let counts: Vec<usize> = (0..rows).map(|row| tried.iter().filter(|answered| answered.met.contains(&row)).count()).collect();
+    let mut order: Vec<usize> = (0..rows).filter(|&row| counts[row] > 0).collect();
+    order.sort_by_key(|&row| counts[row]);
+    for row in order {
+        if met[row] {
+            continue;
+        }
+        let smallest = (0..tried.len()).filter(|&index| tried[index].met.contains(&row)).min_by_key(|&index| sizes[index]);
+        if let Some(index) = smallest {
+            kept[index] = true;
+            tried[index].met.iter().for_each(|&row| met[row] = true);
+        }
+    }
+
+    // then random ones, as they came, that fit, a third of them refused
+    let mut size: usize = list.iter().map(|answered| answered.bytes().len()).sum();
+    size += (0..tried.len()).filter(|&index| kept[index]).map(|index| sizes[index]).sum::<usize>();
+    let mut count = list.len() + kept.iter().filter(|kept| **kept).count();
+    let mut refused = 0;
+    for index in 0..tried.len() {
+        let is_refused = tried[index].chart.is_empty();
+        let room = MOST_BYTES.saturating_sub(size) / JOBS.saturating_sub(count).max(1);
+        if count < JOBS && !kept[index] && !(is_refused && refused * 3 > count) && sizes[index] <= room * 2 && size + sizes[index] <= MOST_BYTES {
+            kept[index] = true;
+            size += sizes[index];
+            count += 1;
+            refused += usize::from(is_refused);
+        }
+    }
+
+    list.extend(tried.into_iter().zip(kept).filter(|(_, kept)| *kept).map(|(answered, _)| answered));
+    let bytes: Vec<u8> = list.iter().flat_map(Answered::bytes).collect();
+    if let Err(error) = std::fs::write(&path, &bytes) {
+        eprintln!("{path}: {error}");
+        return ExitCode::FAILURE;
+    }
+
+    let all: Vec<usize> = (0..rows).map(|row| list.iter().filter(|answered| answered.met.contains(&row)).count()).collect();
+    let (branches, answers) = all.split_at(hits::NAMES.len());
+    let (refusals, columns) = answers.split_at(16);
+    println!("{} jobs, 0 differ", list.len());
+    println!("charts: {}", columns.iter().sum::<usize>());
+    for (number, count) in refusals.iter().enumerate().filter(|(_, count)| **count > 0) {
+        println!("refused {number}: {count}");
+    }
+
+    eprintln!("{} bytes; charts by columns from 1: {:?}", bytes.len(), &columns[1..10]);
+    for (name, _) in hits::NAMES.iter().zip(branches).filter(|(_, count)| **count == 0) {
+        let elsewhere = name.starts_with("single_") || name.starts_with("chart_");
+        if !elsewhere && hits::NEVER.iter().all(|(never, _)| never != name) {
+            eprintln!("not met: {name}");
+        }
+    }
+
+    ExitCode::SUCCESS
+}
