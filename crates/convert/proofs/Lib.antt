@@ -1,2 +1,3 @@
 pub mod Songs
 pub mod Jobs
+pub mod Demand

@@ -1,5 +1,5 @@
 -- Demand 3 of records (`Demand`), the conditions of their refusals (`Numbers`, `Refusals`), and that a job's chart is read (`Read`), from what
--- an accepted record says of its song (`Ranges`) and so of its notes (`Sliders`, `Times`). `Rows`: the bench table's job.
+-- an accepted record says of its song (`Ranges`) and so of its notes (`Sliders`, `Times`).
 pub mod Numbers
 pub mod Times
 pub mod Ranges
@@ -7,4 +7,3 @@ pub mod Sliders
 pub mod Demand
 pub mod Read
 pub mod Refusals
-pub mod Rows

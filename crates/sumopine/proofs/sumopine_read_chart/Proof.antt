@@ -1,0 +1,24 @@
+-- `sumopine::sumopine_read_chart` meets its contract: what an arm binds are the numbers of the answer. Assumes nothing.
+use borrow.Author.Needs.{needs}
+use mathlib.Core.Path.{refl}
+use Rattle.sumopine.proofs.sumopine_read_chart.Statement.{statement}
+use Rattle.sumopine.proofs.sumopine_read_chart.Tie as tie
+
+read-requires : tie.Need-read-requires
+read-requires c κs = search needs
+
+enum-known-c : tie.Need-enum-known-c
+enum-known-c c = search needs
+
+enum-told : tie.Need-enum-told
+enum-told c = search needs
+
+returns : tie.Need-returns
+returns c = rw (← c .before .before .before .read .ensures, c .before .c .given .1) (refl, (refl, (refl, refl)))
+
+returns-2 : tie.Need-returns-2
+returns-2 c = rw (← c .before .before .read .ensures, c .enum-told .given .1) (refl, (refl, (refl, refl)))
+
+pub sumopine-read-chart-spec : {M : Type 1} → statement M
+sumopine-read-chart-spec =
+    tie.close (tie.spec read-requires enum-known-c enum-told returns returns-2)

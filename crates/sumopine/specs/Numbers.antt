@@ -1,0 +1,67 @@
+-- The answers of a job, of the chart reader and of the note reader as the numbers that a host in C gets. Assumes nothing.
+use mathlib.Core.Bool.{cond}
+use mathlib.Core.Option.{Option, none, some}
+use Prim.Native.Nat.{ℕ}
+use Rattle.chart.specs.declared.Note.{Note}
+use Rattle.chart.specs.Chart.{Reading}
+use Rattle.chart.specs.Chart as Chart
+use Rattle.mania.specs.Job.{Answer, accepted, refusal}
+
+-- ---- a job: the refusal's number, 0 for none; the chart's length, 0 after a refusal; the object's index and the draws so far,
+-- 0 where there is a chart, which has its draws
+
+abbrev pub numberOf : Answer → ℕ
+numberOf (accepted length) = 0
+numberOf (refusal n i d) = n
+
+abbrev pub lengthOf : Answer → ℕ
+lengthOf (accepted length) = length
+lengthOf (refusal n i d) = 0
+
+abbrev pub objectOf : Answer → ℕ
+objectOf (accepted length) = 0
+objectOf (refusal n i d) = i
+
+abbrev pub drawsOf : Answer → ℕ
+drawsOf (accepted length) = 0
+drawsOf (refusal n i d) = d
+
+-- ---- a chart that is read: the refusal's number, 0 for none; the header's numbers, 0 after a refusal
+
+abbrev pub readNumber : Reading → ℕ
+readNumber (Chart.refused n) = n
+readNumber (Chart.accepted c n d) = 0
+
+abbrev pub readColumns : Reading → ℕ
+readColumns (Chart.refused n) = 0
+readColumns (Chart.accepted c n d) = c
+
+abbrev pub readNotes : Reading → ℕ
+readNotes (Chart.refused n) = 0
+readNotes (Chart.accepted c n d) = n
+
+abbrev pub readDraws : Reading → ℕ
+readDraws (Chart.refused n) = 0
+readDraws (Chart.accepted c n d) = d
+
+-- ---- a note: 1 and its fields, or 0 and zeros; a hold is 1, a circle 0
+
+abbrev pub isFound : Option Note → ℕ
+isFound none = 0
+isFound (some n) = 1
+
+abbrev pub columnIn : Option Note → ℕ
+columnIn none = 0
+columnIn (some n) = n .column
+
+abbrev pub holdIn : Option Note → ℕ
+holdIn none = 0
+holdIn (some n) = cond (n .hold) 1 0
+
+abbrev pub startIn : Option Note → ℕ
+startIn none = 0
+startIn (some n) = n .start
+
+abbrev pub durationIn : Option Note → ℕ
+durationIn none = 0
+durationIn (some n) = n .duration

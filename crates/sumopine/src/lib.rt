@@ -1,0 +1,115 @@
+// What a host in C links. A slice is two arguments there, a pointer and a length, and a number behind a `&mut` is a pointer. Assumes nothing.
+// include/sumopine.h declares these functions.
+use chart::Answer;
+use chart::Found;
+use convert::JobEnd;
+ghost use mathlib.Core.Path.{_≡_};
+ghost use mathlib.Core.Bool.{cond};
+ghost use Rattle.job.specs.Job.{job};
+ghost use Rattle.chart.specs.Chart.{reading, noteIn};
+ghost use Rattle.sumopine.specs.Numbers.{numberOf, lengthOf, objectOf, drawsOf, readNumber, readColumns, readNotes, readDraws, isFound, columnIn, holdIn, startIn, durationIn};
+
+// A job, of a record's bytes: 0 and the chart's length, or the refusal's number, the object's index and the draws so far.
+#[no_mangle]
+pub extern "C" fn sumopine_convert(
+    bytes: &[u8],
+    chart: &mut [u8],
+    allowance: u32,
+    length: &mut u64,
+    object: &mut u32,
+    draws: &mut u32,
+) -> u32
+    ensures { λ r. ⌜ r ≡ numberOf (job (now (bytes .entry)) (now (chart .entry)) allowance .answer) ⌝ }
+    ensures { λ _. ⌜ now (length .exit) ≡ lengthOf (job (now (bytes .entry)) (now (chart .entry)) allowance .answer) ⌝ }
+    ensures { λ _. ⌜ now (object .exit) ≡ objectOf (job (now (bytes .entry)) (now (chart .entry)) allowance .answer) ⌝ }
+    ensures { λ _. ⌜ now (draws .exit) ≡ drawsOf (job (now (bytes .entry)) (now (chart .entry)) allowance .answer) ⌝ }
+    ensures { λ _. ⌜ now (chart .exit) ≡ job (now (bytes .entry)) (now (chart .entry)) allowance .chart ⌝ }
+{
+    match convert::convert(bytes, chart, allowance) {
+        JobEnd::Chart(n) => {
+            *length = n as u64;
+            *object = 0;
+            *draws = 0;
+            0
+        }
+        JobEnd::Refused(k, i, d) => {
+            *length = 0;
+            *object = i;
+            *draws = d;
+            k as u32
+        }
+    }
+}
+
+// Reads a chart: 0 and the three numbers of its header, or 14 and zeros.
+#[no_mangle]
+pub extern "C" fn sumopine_read_chart(
+    chart: &[u8],
+    columns: &mut u32,
+    notes: &mut u32,
+    draws: &mut u32,
+) -> u32
+    ensures { λ r. ⌜ r ≡ readNumber (reading (now (chart .entry))) ⌝ }
+    ensures { λ _. ⌜ now (columns .exit) ≡ readColumns (reading (now (chart .entry))) ⌝ }
+    ensures { λ _. ⌜ now (notes .exit) ≡ readNotes (reading (now (chart .entry))) ⌝ }
+    ensures { λ _. ⌜ now (draws .exit) ≡ readDraws (reading (now (chart .entry))) ⌝ }
+{
+    match chart::reader::read(chart) {
+        Answer::Chart {
+            columns: c,
+            notes: n,
+            draws: d,
+        } => {
+            *columns = c;
+            *notes = n;
+            *draws = d;
+            0
+        }
+        Answer::Refused => {
+            *columns = 0;
+            *notes = 0;
+            *draws = 0;
+            14
+        }
+    }
+}
+
+fn bit(flag: bool) -> u32
+    ensures { λ r. ⌜ r ≡ cond flag 1 0 ⌝ }
+{
+    if flag { 1 } else { 0 }
+}
+
+// The note of an index, counted from 0: 1 and its fields where the bytes go on to its end, else 0 and zeros.
+#[no_mangle]
+pub extern "C" fn sumopine_note(
+    chart: &[u8],
+    index: u32,
+    column: &mut u32,
+    hold: &mut u32,
+    start: &mut u64,
+    duration: &mut u64,
+) -> u32
+    ensures { λ r. ⌜ r ≡ isFound (noteIn (now (chart .entry)) index) ⌝ }
+    ensures { λ _. ⌜ now (column .exit) ≡ columnIn (noteIn (now (chart .entry)) index) ⌝ }
+    ensures { λ _. ⌜ now (hold .exit) ≡ holdIn (noteIn (now (chart .entry)) index) ⌝ }
+    ensures { λ _. ⌜ now (start .exit) ≡ startIn (noteIn (now (chart .entry)) index) ⌝ }
+    ensures { λ _. ⌜ now (duration .exit) ≡ durationIn (noteIn (now (chart .entry)) index) ⌝ }
+{
+    match chart::reader::note(chart, index) {
+        Found::At(n) => {
+            *column = n.column as u32;
+            *hold = bit(n.hold);
+            *start = n.start;
+            *duration = n.duration;
+            1
+        }
+        Found::Nothing => {
+            *column = 0;
+            *hold = 0;
+            *start = 0;
+            *duration = 0;
+            0
+        }
+    }
+}

@@ -1,0 +1,96 @@
+/* A host: converts the record in a file, or else a small one of its own, and prints the chart.
+ *     host [RECORD [ALLOWANCE]] */
+#include <inttypes.h>
+#include <stdio.h>
+#include <stdlib.h>
+#include <string.h>
+
+#include "sumopine.h"
+
+#define BYTES 65536
+
+static uint8_t record[BYTES];
+static uint8_t chart[BYTES];
+
+/* Appends the low `width` bits of a value, most significant first, to a record of zero bytes. */
+static size_t put(size_t at, unsigned width, uint64_t value) {
+    while (width-- > 0) {
+        record[at / 8] |= (uint8_t)((value >> width & 1) << (7 - at % 8));
+        at++;
+    }
+    return at;
+}
+
+static uint64_t bits(double value) {
+    uint64_t pattern;
+    memcpy(&pattern, &value, sizeof pattern);
+    return pattern;
+}
+
+static double number(uint64_t pattern) {
+    double value;
+    memcpy(&value, &pattern, sizeof value);
+    return value;
+}
+
+/* Key choice 9, settings 0, multiplier 1 and one hold at 1000 for 300. */
+static size_t small_record(void) {
+    size_t at = put(0, 4, 1);
+    at = put(at, 4, 9);
+    at = put(at + 4 * 32, 64, bits(1.0));
+    at = put(at, 8, 0);
+    at = put(at + 3 * 12, 12, 1);
+    at = put(at, 2, 3);
+    at = put(at, 4, 0);
+    at = put(at + 2 * 32, 64, bits(1000.0));
+    at = put(at, 64, bits(300.0));
+    return (at + 7) / 8;
+}
+
+static size_t read_record(const char *path) {
+    FILE *file = fopen(path, "rb");
+    if (file == NULL) {
+        perror(path);
+        exit(2);
+    }
+    size_t length = fread(record, 1, BYTES, file);
+    if (length == BYTES) {
+        fprintf(stderr, "%s: too long\n", path);
+        exit(2);
+    }
+    fclose(file);
+    return length;
+}
+
+static int print_chart(size_t length) {
+    uint32_t columns, notes, draws;
+    uint32_t refusal = sumopine_read_chart(chart, length, &columns, &notes, &draws);
+    if (refusal != 0) {
+        printf("refused %" PRIu32 "\n", refusal);
+        return 1;
+    }
+    printf("%" PRIu32 " columns, %" PRIu32 " notes, %" PRIu32 " draws\n", columns, notes, draws);
+
+    uint32_t column, hold;
+    uint64_t start, duration;
+    for (uint32_t i = 0; sumopine_note(chart, length, i, &column, &hold, &start, &duration) == 1; i++) {
+        printf("column %" PRIu32 " at %.17g ms", column, number(start));
+        if (hold) printf(" for %.17g ms", number(duration));
+        printf("\n");
+    }
+    return 0;
+}
+
+int main(int count, char **words) {
+    size_t record_len = count > 1 ? read_record(words[1]) : small_record();
+    uint32_t allowance = count > 2 ? (uint32_t)strtoul(words[2], NULL, 10) : 1000000;
+
+    uint64_t length;
+    uint32_t object, draws;
+    uint32_t refusal = sumopine_convert(record, record_len, chart, BYTES, allowance, &length, &object, &draws);
+    if (refusal != 0) {
+        printf("refused %" PRIu32 ", object %" PRIu32 ", draws %" PRIu32 "\n", refusal, object, draws);
+        return 1;
+    }
+    return print_chart((size_t)length);
+}

@@ -1,0 +1,73 @@
+/* Sumopine: converts a song's job record into a mania chart, and reads charts.
+ *
+ * A buffer is a pointer and a length in bytes. Pointers are never null, also where a length is 0, and what is written through one pointer
+ * is reached through no other pointer of the same call. Nothing is kept, allocated or freed: all memory stays the caller's.
+ * There is no global state, so that calls on different memory may run at the same time on any number of threads.
+ * 64 KiB of stack are enough for any job (measured, not proved). Every output is set in every case, as said at each function. */
+#ifndef SUMOPINE_H
+#define SUMOPINE_H
+
+#include <stddef.h>
+#include <stdint.h>
+
+#ifdef __cplusplus
+extern "C" {
+#endif
+
+/* Bytes of a chart's header and of each of its notes. */
+#define SUMOPINE_HEADER_BYTES 8
+#define SUMOPINE_NOTE_BYTES 17
+
+/* The refusals. */
+enum {
+    SUMOPINE_FIELD_NOT_WHOLE = 1,
+    SUMOPINE_VERSION = 2,
+    SUMOPINE_KEY_CHOICE = 3,
+    SUMOPINE_SETTING = 4,
+    SUMOPINE_BREAK_OR_POINT = 5,
+    SUMOPINE_OBJECT = 6,
+    SUMOPINE_FILLING = 7,
+    SUMOPINE_SLIDER_END = 8,
+    SUMOPINE_NO_COLUMN = 9,
+    SUMOPINE_OFF_DECK = 10,
+    SUMOPINE_CHART_TOO_SHORT = 11,
+    SUMOPINE_NO_DRAW_LEFT = 12,
+    SUMOPINE_BROKEN_CHART = 14
+};
+
+/* Converts a job record, with at most `allowance` draws, into a chart at the start of the chart buffer.
+ *
+ * Returns   *length            *object             *draws          the chart buffer
+ * 0         the chart's bytes  0                   0               the chart; later bytes keep their values
+ * 1 to 12   0                  the object's index  draws so far    all zero
+ *
+ * The object's index counts from 0, and is 0 where the record is refused (1 to 7) or the buffer is under 8 bytes (11). A chart has its
+ * draws in its header, which `sumopine_read_chart` gives. The record is only read. */
+uint32_t sumopine_convert(const uint8_t *record, size_t record_len, uint8_t *chart, size_t chart_len, uint32_t allowance,
+                          uint64_t *length, uint32_t *object, uint32_t *draws);
+
+/* Reads a chart of exactly `chart_len` bytes and checks all of it.
+ *
+ * Returns   *columns  *notes              *draws
+ * 0         1 to 9    the number of notes the draws of its job
+ * 14        0         0                   0
+ *
+ * The chart is only read. */
+uint32_t sumopine_read_chart(const uint8_t *chart, size_t chart_len, uint32_t *columns, uint32_t *notes, uint32_t *draws);
+
+/* The fields of the note with this index, counted from 0. It checks only that the bytes go on to the note's end.
+ *
+ * Returns   *column    *hold                  *start              *duration
+ * 1         its column 1 a hold, 0 a circle   an f64's bits, ms   an f64's bits, ms; 0 for a circle
+ * 0         0          0                      0                   0
+ *
+ * In a chart that `sumopine_read_chart` takes, exactly the indices below *notes give 1. In other bytes the fields are what stands there:
+ * a column up to 15, and any bits. The chart is only read. */
+uint32_t sumopine_note(const uint8_t *chart, size_t chart_len, uint32_t index, uint32_t *column, uint32_t *hold, uint64_t *start,
+                       uint64_t *duration);
+
+#ifdef __cplusplus
+}
+#endif
+
+#endif
