@@ -1,24 +1,25 @@
 // Reads a job record from standard input, converts it, and prints its chart as text (document 01, bench table).
 use convert::JobEnd;
 use convert::convert;
+ghost use mathlib.Core.Path.{_≡_};
 ghost use Prim.Native.Nat.{_+_, _*_, _≤_};
 ghost use lib.ListN.{length};
 ghost use Rattle.io.specs.Counts.{Counts};
+ghost use Rattle.chart.specs.Bytes.{splice};
+ghost use Rattle.job.specs.Job.{job};
+ghost use Rattle.charttext.specs.Printed.{jobText};
 
 const ALLOWANCE: u32 = 1_000_000;
 
 // Stores the text of how the record's job ends from the start of `text`, and gives its length. The chart is made in `chart`.
-fn answer(record: &[u8], chart: &mut [u8], text: &mut [u8]) -> usize
+fn answer(bytes: &[u8], chart: &mut [u8], text: &mut [u8]) -> usize
     requires { ⌜ 3 * length (now chart) + 64 ≤ length (now text) ⌝ }
     ensures { λ r. ⌜ Counts r (now (text .exit)) ⌝ }
+    ensures { λ r. ⌜ r ≡ length (jobText (job (now (bytes .entry)) (now (chart .entry)) 1000000)) ⌝ }
+    ensures { λ _. ⌜ now (text .exit) ≡ splice (now (text .entry)) 0 (jobText (job (now (bytes .entry)) (now (chart .entry)) 1000000)) ⌝ }
 {
-    match convert(record, chart, ALLOWANCE) {
-        JobEnd::Chart(size) => {
-            if size > chart.len() {
-                return 0;
-            }
-            chart_text::put_chart(&chart[..size], text)
-        }
+    match convert(bytes, chart, ALLOWANCE) {
+        JobEnd::Chart(size) => chart_text::put_chart(&chart[..size], text),
         JobEnd::Refused(number, object, draws) => {
             chart_text::put_refusal_line(text, 0, number as u32, object, draws)
         }
