@@ -81,6 +81,20 @@ static int print_chart(size_t length) {
     return 0;
 }
 
+/* The small record's hold alone, on 9 columns, after no other object, from the state of seed 0. */
+static int print_object(void) {
+    uint32_t x = 0, y = 842502087, z = 3579807591, w = 273326509;
+    uint32_t notes, mask, last, stair, draws;
+    uint32_t refusal = sumopine_object(0.0, 1.0, 1000.0, 1.0, 0, 0.0, 0.0, 0.0f, 0.0f, 0, 0, 0, 9, 0.0f, 0.0f, 1000.0, 0, SUMOPINE_HOLD, 0, 0,
+                                       0.0, 0, 0, 300.0, 1, &x, &y, &z, &w, chart, BYTES, &notes, &mask, &last, &stair, &draws);
+    if (refusal != 0) {
+        printf("refused %" PRIu32 "\n", refusal);
+        return 1;
+    }
+    printf("one object: %" PRIu32 " notes, %" PRIu32 " draws, column %d\n", notes, draws, chart[0] >> 4);
+    return 0;
+}
+
 int main(int count, char **words) {
     size_t record_len = count > 1 ? read_record(words[1]) : small_record();
     uint32_t allowance = count > 2 ? (uint32_t)strtoul(words[2], NULL, 10) : 1000000;
@@ -92,5 +106,6 @@ int main(int count, char **words) {
         printf("refused %" PRIu32 ", object %" PRIu32 ", draws %" PRIu32 "\n", refusal, object, draws);
         return 1;
     }
-    return print_chart((size_t)length);
+    if (print_chart((size_t)length) != 0) return 1;
+    return count > 1 ? 0 : print_object();
 }

@@ -3,7 +3,7 @@
  * A buffer is a pointer and a length in bytes. Pointers are never null, also where a length is 0, and what is written through one pointer
  * is reached through no other pointer of the same call. Nothing is kept, allocated or freed: all memory stays the caller's.
  * There is no global state, so that calls on different memory may run at the same time on any number of threads.
- * 64 KiB of stack are enough for any job (measured, not proved). Every output is set in every case, as said at each function. */
+ * A job needs at most 64 KiB of stack. Every output is set in every case, as said at each function. */
 #ifndef SUMOPINE_H
 #define SUMOPINE_H
 
@@ -32,6 +32,7 @@ enum {
     SUMOPINE_OFF_DECK = 10,
     SUMOPINE_CHART_TOO_SHORT = 11,
     SUMOPINE_NO_DRAW_LEFT = 12,
+    SUMOPINE_COLUMNS_OR_PREVIOUS = 13,
     SUMOPINE_BROKEN_CHART = 14
 };
 
@@ -65,6 +66,32 @@ uint32_t sumopine_read_chart(const uint8_t *chart, size_t chart_len, uint32_t *c
  * a column up to 15, and any bits. The chart is only read. */
 uint32_t sumopine_note(const uint8_t *chart, size_t chart_len, uint32_t index, uint32_t *column, uint32_t *hold, uint64_t *start,
                        uint64_t *duration);
+
+/* Kinds of an object. */
+enum { SUMOPINE_CIRCLE = 0, SUMOPINE_SLIDER = 1, SUMOPINE_SPINNER = 2, SUMOPINE_HOLD = 3 };
+
+/* Converts one object, with at most `allowance` draws, and writes its notes, 17 bytes each, from the start of the notes buffer.
+ *
+ * The facts:           difficulty, multiplier, beat length, velocity, kiai (a flag) and density.
+ * The previous values: time, position, mask and last column of the previous pattern, and its stair, 0 or, for a reverse one, any other.
+ * The object:          its position, start, sound and kind; of a slider repeats, distance and first node sound, the last two with a flag,
+ *                      0 where there is none; of a spinner or hold its duration. What the kind has no use for may be anything.
+ * The state:           four words, lent in *state_x to *state_w, which get the new state.
+ *
+ * A flag is set where it is not 0. A float may be anything, also a NaN: what is out of its range is refused. A kind above 3 is refused by 6.
+ *
+ * Returns   *count           *mask     *last                *stair    *draws     the state      the notes buffer
+ * 0         number of notes  new mask  the new last column  0 or 1    the draws  the new state  the notes; later bytes keep their values
+ * 4 to 13   0                0         0                    0         0          as lent        as lent
+ *
+ * The checks are made in this order: 13 for columns, mask and last column, 4 for difficulty and multiplier, 5 for beat length and velocity,
+ * and 6 for the object, the previous position and time and the density. Then come 8, 10, 9 and 12 as reached, and 11 for the notes buffer. */
+uint32_t sumopine_object(double difficulty, double multiplier, double beat, double velocity, uint32_t kiai, double density,
+                         double previous_time, float previous_x, float previous_y, uint16_t previous_mask, uint8_t previous_last,
+                         uint32_t previous_stair, uint8_t columns, float x, float y, double start, uint8_t sound, uint32_t kind,
+                         uint16_t repeats, uint32_t has_distance, double distance, uint32_t has_node, uint8_t node, double duration,
+                         uint32_t allowance, uint32_t *state_x, uint32_t *state_y, uint32_t *state_z, uint32_t *state_w, uint8_t *notes,
+                         size_t notes_len, uint32_t *count, uint32_t *mask, uint32_t *last, uint32_t *stair, uint32_t *draws);
 
 #ifdef __cplusplus
 }

@@ -2,6 +2,8 @@
 
 use entry::{Chart, JobEnd, Note};
 
+pub mod object;
+
 mod c {
     unsafe extern "C" {
         pub fn sumopine_convert(
