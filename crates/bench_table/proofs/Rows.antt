@@ -5,13 +5,13 @@ use Prim.Native.Nat.{ℕ, _+_, _^_}
 use mathlib.Core.Bool.{true, false}
 use mathlib.Core.List.{List, [], _∷_, _++_}
 use lib.IntN.{pos}
-use lib.Ieee.{Float, binary32, binary64, round}
+use lib.Ieee.{Float, binary64, round}
 use lib.ListN.{replicate}
-use Rattle.rules.specs.Rule.{Outcome, ended, refused, spent, run}
+use Rattle.rules.specs.Rule.{ended, refused, spent, run}
 use Rattle.rules.specs.Refusal.{lateEnd, noColumn, offDeck, tooShort}
 use Rattle.random.specs.Generator.{next, low, seeded, between}
 use Rattle.random.specs.Rows as Rows
-use Rattle.floats.specs.Whole.{whole, count}
+use Rattle.floats.specs.Whole.{whole}
 use Rattle.floats.specs.declared.Way.the-variants.{Even}
 use Rattle.model.specs.declared.Settings.{Settings}
 use Rattle.model.specs.declared.Kind.{Kind}
@@ -27,8 +27,7 @@ use Rattle.mania.specs.declared.Note.{Note}
 use Rattle.mania.specs.declared.HitObjectPatternGenerator.{HitObjectPatternGenerator}
 use Rattle.mania.specs.Steps.{single, double}
 use Rattle.mania.specs.PatternType.{reverse}
-use Rattle.mania.specs.Pattern.{Pattern}
-use Rattle.mania.specs.Made.{Made, circle}
+use Rattle.mania.specs.Made.{circle}
 use Rattle.mania.specs.EndTimeObject.{lasting, endNote}
 use Rattle.mania.specs.HitObject.{generateCore}
 use Rattle.mania.specs.PathObject.{startTime, endTime, spanLength}
@@ -36,7 +35,7 @@ use Rattle.model.specs.Song.{Song}
 use Rattle.mania.specs.Convert.{at, seed, targetColumns, convert}
 use Rattle.mania.specs.Single.{withRoom, entryRefusal}
 use Rattle.mania.specs.Chart.{arranged, inWalkOrder, encode}
-use Rattle.mania.specs.Job.{Job, accepted, job}
+use Rattle.mania.specs.Job.{job}
 use Rattle.mania.proofs.Computing.{computing}
 
 abbrev settings : Float → Float → Float → Float → Settings
@@ -223,14 +222,3 @@ refusal-12 = refl
 refusal-13 : entryRefusal facts (previous 16 4 Up) 4 (objectOf (double 0 1) 0 Circle) ≡ 13
 unfolding computing
 refusal-13 = refl
-
--- the whole job, with a buffer of 26 bytes lent and one draw allowed
-hold-job : job holding (replicate 26 165) 1
-    ≡ record {
-      answer = accepted 25;
-      chart =
-          0x19 ∷ 0 ∷ 0 ∷ 1 ∷ 0 ∷ 0 ∷ 0 ∷ 1
-          ∷ 0x18 ∷ 0x40 ∷ 0x8f ∷ 0x40 ∷ 0 ∷ 0 ∷ 0 ∷ 0 ∷ 0 ∷ 0x40 ∷ 0x72 ∷ 0xc0 ∷ 0 ∷ 0 ∷ 0 ∷ 0 ∷ 0 ∷ 165 ∷ [];
-    }
-unfolding computing
-hold-job = refl

@@ -1,7 +1,7 @@
 -- Laws of the rules. Demand 3 of songs: `Allowances` on draws, `Demand` on deck and lanes, from those of each generator (`EndLanes`, `CircleLanes`,
 -- `SliderLanes`). Refusals: `Conditions`, from what each generator is refused by (`CircleEnds`, `SliderEnds`); `Eleven`. `Singles`: the claims of
 -- the single-object entry. `CircleDeck`, `SliderDeck`: what the next object meets. `Counts`: how many notes an object makes. `Back`: columns
--- and positions. `Order`: the chart's order.
+-- and positions. `Order`: the chart's order. `Examples`: computed on the definition.
 pub mod Makes
 pub mod Meets
 pub mod Masks
@@ -27,3 +27,4 @@ pub mod Conditions
 pub mod Eleven
 pub mod Singles
 pub mod Computing
+pub mod Examples
