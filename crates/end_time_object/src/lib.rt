@@ -45,8 +45,8 @@ fn end_column(d: Draws, v: PrevValues, columns: u8) -> Number
     let taken = barred(mask, columns);
     let low = pattern::random_start(columns);
     match pattern::get_random_column(d, low, columns) {
-        Number::Given(c, next) => pattern::find_available_column(
-            next,
+        Number::Given(c, drawn) => pattern::find_available_column(
+            drawn,
             mania::Next::Draw,
             columns,
             c,
