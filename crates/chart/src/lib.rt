@@ -1,11 +1,6 @@
-// The chart: its notes in bytes, its reader, its order and its writer.
+// The chart: its notes, and a note in bytes.
 pub mod bytes;
-pub mod merge;
-pub mod order;
-pub mod reader;
 pub mod rows;
-pub mod time;
-pub mod writer;
 
 // A note of the chart. Its start and its duration are the bit patterns of two f64.
 #[repr(C)]

@@ -1,8 +1,8 @@
 // The text of a chart, as `charttext` prints it: one line at a time into a lent buffer, or a whole chart.
 use chart::Answer;
 use chart::Note;
-use chart::reader::read;
 use chart::rows::note_at;
+use chart_reader::read;
 ghost use mathlib.Core.Path.{_≡_};
 ghost use Prim.Native.Nat.{_+_, _*_, _≤_, _<_};
 ghost use lib.ListN.{length, drop};

@@ -103,7 +103,7 @@ fn convert_song(bytes: &[u8], m: Summary, chart: &mut [u8], allowance: u32) -> J
     };
     match walk_part(bytes, m, chart, g, d) {
         WalkEnd::Made(notes, e) => {
-            let length = chart::writer::finish(chart, g.columns, notes, allowance - e.left);
+            let length = chart_writer::finish(chart, g.columns, notes, allowance - e.left);
             JobEnd::Chart(length)
         }
         WalkEnd::Refused(n, i, e) => refused(chart, n, i, allowance - e.left),

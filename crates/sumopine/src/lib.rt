@@ -56,7 +56,7 @@ pub extern "C" fn sumopine_read_chart(
     ensures { λ _. ⌜ now (notes .exit) ≡ readNotes (reading (now (chart .entry))) ⌝ }
     ensures { λ _. ⌜ now (draws .exit) ≡ readDraws (reading (now (chart .entry))) ⌝ }
 {
-    match chart::reader::read(chart) {
+    match chart_reader::read(chart) {
         Answer::Chart {
             columns: c,
             notes: n,
@@ -98,7 +98,7 @@ pub extern "C" fn sumopine_note(
     ensures { λ _. ⌜ now (start .exit) ≡ startIn (noteIn (now (chart .entry)) index) ⌝ }
     ensures { λ _. ⌜ now (duration .exit) ≡ durationIn (noteIn (now (chart .entry)) index) ⌝ }
 {
-    match chart::reader::note(chart, index) {
+    match chart_reader::note(chart, index) {
         Found::At(n) => {
             *column = n.column as u32;
             *hold = bit(n.hold);

@@ -1,0 +1,107 @@
+// The chart reader.
+pub mod time;
+
+use crate::time::within;
+use chart::Answer;
+use chart::Found;
+use chart::Note;
+use chart::bytes::get;
+use chart::rows::note_at;
+ghost use mathlib.Core.Path.{_≡_};
+ghost use Prim.Native.Nat.{_<_};
+ghost use Rattle.chart.specs.Chart.{okHead, okNote, lasts, reading, meaning, noteIn, found};
+ghost use Rattle.chart.specs.Laws.Times.{infinity};
+
+// The bit pattern of infinity: those below it are the times.
+const INFINITY: u64 = 0x7ff0_0000_0000_0000;
+
+// A hold lasts; the duration of a circle is zero bits.
+fn lasting(hold: bool, duration: u64) -> bool
+    requires { ⌜ duration < infinity ⌝ }
+    ensures { λ r. ⌜ r ≡ lasts hold duration ⌝ }
+{
+    if hold { 0 < duration } else { duration == 0 }
+}
+
+// Whether a note may stand after one that starts at `last`.
+fn may_stand(columns: u8, last: u64, n: Note) -> bool
+    requires { ⌜ last < infinity ⌝ }
+    ensures { λ r. ⌜ r ≡ okNote columns last n ⌝ }
+{
+    if n.column >= columns {
+        return false;
+    }
+    if n.start >= INFINITY {
+        return false;
+    }
+    if n.duration >= INFINITY {
+        return false;
+    }
+    if last > n.start {
+        return false;
+    }
+    if !lasting(n.hold, n.duration) {
+        return false;
+    }
+    within(n.start, n.duration)
+}
+
+// Eight bytes at least, version 1, columns 1 to 9, and as many bytes as the stated notes take.
+fn header_ok(chart: &[u8]) -> bool
+    ensures { λ r. ⌜ r ≡ okHead (now (chart .entry)) ⌝ }
+{
+    if chart.len() < 8 {
+        return false;
+    }
+    if chart[0] / 16 != 1 {
+        return false;
+    }
+    if chart[0] % 16 < 1 {
+        return false;
+    }
+    if chart[0] % 16 > 9 {
+        return false;
+    }
+    chart.len() == 8 + 17 * (get(chart, 1, 3) as usize)
+}
+
+pub fn read(chart: &[u8]) -> Answer
+    ensures { λ r. ⌜ meaning r ≡ reading (now (chart .entry)) ⌝ }
+{
+    if !header_ok(chart) {
+        return Answer::Refused;
+    }
+    let columns = chart[0] % 16;
+    let notes = get(chart, 1, 3) as u32;
+    let count = notes as usize;
+    let mut last = 0;
+    let mut i = 0;
+    while i < count {
+        let at = 8 + 17 * i;
+        if chart[at] % 8 != 0 {
+            return Answer::Refused;
+        }
+        let n = note_at(chart, at);
+        if !may_stand(columns, last, n) {
+            return Answer::Refused;
+        }
+        last = n.start;
+        i += 1;
+    }
+    Answer::Chart {
+        columns: columns as u32,
+        notes,
+        draws: get(chart, 4, 4) as u32,
+    }
+}
+
+// The note of an index, counted from 0.
+pub fn note(chart: &[u8], index: u32) -> Found
+    ensures { λ r. ⌜ found r ≡ noteIn (now (chart .entry)) index ⌝ }
+{
+    let at = 8 + 17 * (index as usize);
+    if at + 17 > chart.len() {
+        return Found::Nothing;
+    }
+    Found::At(note_at(chart, at))
+}

@@ -1,0 +1,49 @@
+-- `chart::writer::finish` meets its contract. The notes behind the header are as they were, and the splice of the header and that of the notes are one splice of the chart (`encode-put`).
+-- Assumes nothing.
+use mathlib.Core.Path.{_≡_, refl, _∙_}
+use mathlib.Core.List.{List, []}
+use Prim.Native.Nat.{ℕ}
+use native.Mathlib.Nat.{zero-add}
+use native.Mathlib.Omega.{arith}
+use lib.ListN.{length, drop}
+use Rattle.chart.specs.declared.Note.{Note}
+use Rattle.chart.specs.Bytes.{splice}
+use Rattle.chart.specs.Chart.{header, notesOf}
+use Rattle.chart.specs.Order.{arranged}
+use Rattle.chart.specs.Laws.Bytes.{drop-splice}
+use Rattle.chart.specs.Laws.Notes.{encode-put, length-header, length-notesOf}
+use Rattle.chart.specs.Laws.Arranged.{length-arranged}
+use borrow.Author.Needs.{needs}
+use Rattle.chart_writer.proofs.finish.Statement.{statement}
+use Rattle.chart_writer.proofs.finish.Tie as tie
+
+put-header-requires : tie.Need-put-header-requires
+put-header-requires c κs = search needs
+
+arrange-requires : tie.Need-arrange-requires
+arrange-requires c κs = search needs
+
+mul-result : tie.Need-mul-result
+mul-result c = search needs
+
+add-result : tie.Need-add-result
+add-result c = search needs
+
+same-length : tie.Need-same-length
+same-length c = search needs
+
+returns : tie.Need-returns
+returns c =
+    let a = c .before .before .before .before .before .before .before .before .before .args in
+    let s = a .chart .now in
+    let h : List ℕ = header (a .columns) (a .notes) (a .draws) in
+    let behind : drop 8 (splice s 0 h) ≡ drop 8 s = drop-splice s 0 h 8 (omega arith) (omega (arith, length-header (a .columns) (a .notes) (a .draws))) in
+    let ns : List Note = arranged [] (notesOf (a .notes) (drop 8 s)) in
+    let size : length ns ≡ a .notes = length-arranged [] (notesOf (a .notes) (drop 8 s)) ∙ zero-add (length (notesOf (a .notes) (drop 8 s))) ∙ length-notesOf (a .notes) (drop 8 s) in
+    let whole = encode-put s (a .columns) (a .draws) ns (rw size (search needs)) in
+    (refl, c .before .before .arrange .ensures ∙ rw (c .before .before .before .before .before .before .put-header .ensures, behind) (rw size at whole))
+
+pub finish-spec : {M : Type 1} → statement M
+finish-spec =
+    tie.close
+    (tie.spec put-header-requires arrange-requires mul-result add-result same-length returns)
