@@ -114,7 +114,7 @@ fn convert_song(bytes: &[u8], m: Summary, chart: &mut [u8], allowance: u32) -> J
 pub fn convert(bytes: &[u8], chart: &mut [u8], allowance: u32) -> JobEnd
     ensures { λ r. ⌜ jobEnd (now (chart .exit)) r ≡ job (now (bytes .entry)) (now (chart .entry)) allowance ⌝ }
 {
-    match record::check_record(bytes) {
+    match job_reader::check_record(bytes) {
         Checked::Refused(n) => refused(chart, n, 0, 0),
         Checked::Accepted(m) => convert_song(bytes, m, chart, allowance),
     }

@@ -1,32 +1,12 @@
-// The job record: its check, its objects, its points in force.
+// The job record: its definition, and the checks and values of its header and its lists.
 pub mod header;
-pub mod lookup;
 pub mod object;
 pub mod refusal;
 pub mod section;
 
-ghost use mathlib.Core.Path.{_≡_};
-ghost use Prim.Native.Nat.{_≤_};
-ghost use Rattle.record.specs.Header.{SmallCounts};
-ghost use Rattle.record.specs.Object.{objects};
-ghost use Rattle.record.specs.Record.{listsRefusal, fillRefusal, parse, checkedOf};
-ghost use Rattle.model.specs.Totals.{firstStart};
-use bits::read_bits;
 use header::Counts;
 use header::Places;
-use header::counts_of;
-use header::header_refusal;
-use header::keys_of;
-use header::places_of;
-use header::settings_of;
 use model::Settings;
-use object::Scan;
-use object::scan_objects;
-use refusal::f64_at;
-use refusal::first;
-use refusal::refuse;
-use section::Section;
-use section::section_refusal;
 
 // What the check of an accepted record finds: key choice, settings, how many entries each list has and where it starts, the first and the last object's
 // start (0 without objects), and how many objects are sliders and spinners.
@@ -44,75 +24,4 @@ pub struct Summary {
 pub enum Checked {
     Refused(u8),
     Accepted(Summary),
-}
-
-// Breaks and points.
-fn lists_refusal(s: &[u8], n: Counts) -> u8
-    requires { ⌜ SmallCounts n ⌝ }
-    ensures { λ r. ⌜ r ≡ listsRefusal (now (s .entry)) n ⌝ }
-{
-    let at = places_of(n);
-    let breaks = section_refusal(Section::Breaks, s, 256, n.breaks);
-    let timing = section_refusal(Section::TimingPoints, s, at.timing, n.timing);
-    let difficulty = section_refusal(Section::DifficultyPoints, s, at.difficulty, n.difficulty);
-    let effect = section_refusal(Section::EffectPoints, s, at.effect, n.effect);
-    first(breaks, first(timing, first(difficulty, effect)))
-}
-
-// The bits from bit `at` to the end of its byte, and what follows.
-fn fill_refusal(s: &[u8], at: usize) -> u8
-    requires { ⌜ at ≤ 1000000000 ⌝ }
-    ensures { λ r. ⌜ r ≡ fillRefusal (now (s .entry)) at ⌝ }
-{
-    let bytes = (at + 7) / 8;
-    if read_bits(s, at, 8 * bytes - at) != 0 {
-        return 7;
-    }
-    refuse(bytes < s.len(), 7)
-}
-
-// The first of `count` objects from bit `at` on: its start, 0 without objects.
-fn first_start(s: &[u8], at: usize, count: usize) -> f64
-    requires { ⌜ at ≤ 100000000 ⌝ }
-    ensures { λ r. ⌜ r ≡ firstStart (objects (now (s .entry)) at count) ⌝ }
-{
-    if count == 0 {
-        return 0.0;
-    }
-    f64_at(s, at + 70)
-}
-
-// Every condition of a record, in record order; what it is, where none applies.
-pub fn check_record(s: &[u8]) -> Checked
-    ensures { λ r. ⌜ r ≡ checkedOf (parse (now (s .entry))) ⌝ }
-{
-    let counts = counts_of(s);
-    let places = places_of(counts);
-    let before = first(header_refusal(s), lists_refusal(s, counts));
-    if before != 0 {
-        return Checked::Refused(before);
-    }
-    let at = places.objects;
-    let count = counts.objects;
-    match scan_objects(s, at, count) {
-        Scan::Refused(n) => Checked::Refused(n),
-        Scan::Scanned { end, last, long } => {
-            let fill = fill_refusal(s, end);
-            if fill != 0 {
-                return Checked::Refused(fill);
-            }
-            let keys = keys_of(s);
-            let settings = settings_of(s);
-            let first = first_start(s, at, count);
-            Checked::Accepted(Summary {
-                keys,
-                settings,
-                counts,
-                places,
-                first,
-                last,
-                long,
-            })
-        }
-    }
 }

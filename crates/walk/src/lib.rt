@@ -26,13 +26,13 @@ use model::Position;
 use notes::put_notes;
 use pattern::ObjectEnd;
 use pattern::Pattern;
+use points::difficulty_point_at;
+use points::effect_point_at;
+use points::timing_point_at;
 use random::Draws;
 use record::header::Counts;
 use record::header::Places;
-use record::lookup::difficulty_point_at;
-use record::lookup::effect_point_at;
-use record::lookup::timing_point_at;
-use record::object::read_object;
+use record_object::read_object;
 
 // What the walk keeps between objects; `notes` counts the notes so far.
 pub struct Walk {

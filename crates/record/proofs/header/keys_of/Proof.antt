@@ -1,7 +1,7 @@
 -- `record::header::keys_of` meets its contract: a field of 4 bits fits. Assumes nothing.
 use lib.Dec.{lit≤}
 use Rattle.record.specs.Header.{keysOf}
-use Rattle.record.proofs.Widths.{bits-fit}
+use Rattle.record.specs.Laws.Widths.{bits-fit}
 use borrow.Author.Needs.{needs}
 use Rattle.record.proofs.header.keys_of.Statement.{statement}
 use Rattle.record.proofs.header.keys_of.Tie as tie

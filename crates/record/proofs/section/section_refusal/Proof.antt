@@ -6,7 +6,7 @@ use native.Mathlib.Omega.{arith}
 use lib.Ieee.{neg, ofInt, round, size, span, climb, units, odd, ofBits, ofFields}
 use Rattle.record.specs.Refusal.{f64At, entriesRefusal}
 use Rattle.record.specs.Section.{widthOf, entryEnd, entryRefusal, sectionRefusal, noTime}
-use Rattle.record.proofs.Widths.{width-le}
+use Rattle.record.specs.Laws.Widths.{width-le}
 use Rattle.record.specs.Laws.Entries.{entries-stop, entries-next}
 use Rattle.record.proofs.section.section_refusal.Statement.{statement}
 use Rattle.record.proofs.section.section_refusal.Tie as tie

@@ -1,0 +1,2 @@
+-- The check of a record, part by part.
+pub mod Checks

@@ -1,0 +1,2 @@
+-- What the search by halves knows.
+pub mod Lookups
