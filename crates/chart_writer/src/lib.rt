@@ -6,7 +6,7 @@ use crate::order::arrange;
 use chart::bytes::put;
 ghost use mathlib.Core.Path.{_≡_};
 ghost use mathlib.Core.List.{[]};
-ghost use Prim.Native.Nat.{_+_, _*_, _^_, _≤_, _<_};
+ghost use Prim.Native.Nat.{_+_, _*_, _≤_, _<_};
 ghost use lib.ListN.{length, drop};
 ghost use Rattle.chart.specs.Bytes.{splice};
 ghost use Rattle.chart.specs.Chart.{header, encode, notesOf};

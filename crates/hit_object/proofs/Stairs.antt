@@ -9,7 +9,7 @@ use Rattle.mania.specs.declared.HitObjectPatternGenerator.{HitObjectPatternGene
 use Rattle.mania.specs.declared.Stair.{Stair}
 use Rattle.mania.specs.Made.{circle}
 use Rattle.mania.specs.HitObject.{turned, stairAfter}
-use Rattle.hit_object.specs.Answers.{circleAt}
+use Rattle.circle_notes.specs.Answers.{circleAt}
 
 -- of the first words, those from word i on: word i and those after it
 rest-is : (words : List ℕ) (count i d : ℕ) → i < count → count ≤ length words → drop i (take count words) ≡ getD words i d ∷ drop (suc i) (take count words)

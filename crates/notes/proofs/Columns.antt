@@ -16,7 +16,7 @@ use Rattle.mania.specs.Steps.{double}
 use Rattle.mania.specs.Made.{circle}
 use Rattle.mania.specs.EndTimeObject.{lasting, endNote}
 use Rattle.mania.specs.PathObject.{noteOf}
-use Rattle.hit_object.specs.Answers.{circleAt}
+use Rattle.circle_notes.specs.Answers.{circleAt}
 use Rattle.end_time_object.specs.Answers.{endNoteAt}
 use Rattle.slider_notes.specs.Words.{ofWord, noteOfWord}
 use Rattle.object.specs.Notes.{noteBy, noteAt}

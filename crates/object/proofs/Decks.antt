@@ -29,7 +29,7 @@ use Rattle.pattern.specs.Answers.{objectEnd, noted, Generates}
 use Rattle.pattern.specs.declared.ObjectEnd.{ObjectEnd}
 use Rattle.pattern.specs.declared.ObjectEnd.the-variants as E
 use Rattle.end_time_object.specs.Answers.{endNoteAt}
-use Rattle.hit_object.specs.Answers.{circleAt}
+use Rattle.circle_notes.specs.Answers.{circleAt}
 use Rattle.slider_notes.specs.Words.{noteOfWord}
 use Rattle.object.specs.Notes.{noteBy, noteAt}
 use Rattle.object.specs.Contract.{OnDeck, Ends}

@@ -5,7 +5,7 @@ use Rattle.model.specs.declared.Kind.the-variants.{Circle, Slider, Spinner, Hol
 use Rattle.model.specs.declared.Object.{Object}
 use Rattle.mania.specs.declared.Note.{Note}
 use Rattle.end_time_object.specs.Answers.{endNoteAt}
-use Rattle.hit_object.specs.Answers.{circleAt}
+use Rattle.circle_notes.specs.Answers.{circleAt}
 use Rattle.slider_notes.specs.Words.{noteOfWord}
 
 -- by the object's kind: a slider's word has column, start and end; any other kind's has the column

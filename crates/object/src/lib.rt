@@ -6,7 +6,7 @@ ghost use Rattle.random.specs.Play.{on};
 ghost use Rattle.mania.specs.HitObject as HitObject;
 ghost use Rattle.mania.specs.PathObject as PathObject;
 ghost use Rattle.pattern.specs.Answers.{Generates};
-ghost use Rattle.hit_object.specs.Answers.{circleAt};
+ghost use Rattle.circle_notes.specs.Answers.{circleAt};
 ghost use Rattle.slider_notes.specs.Words.{noteOfWord};
 ghost use Rattle.object.specs.Notes.{noteAt};
 ghost use Rattle.object.specs.Contract.{Asks, Ends};

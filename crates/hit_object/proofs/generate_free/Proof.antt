@@ -1,7 +1,7 @@
 -- `hit_object::generate_free` meets its contract. Assumes nothing.
 use native.Mathlib.Omega.{arith}
 use Rattle.hit_object.specs.Parts.{generateFree}
-use Rattle.hit_object.proofs.Words.{at-most-le}
+use Rattle.pattern.specs.Laws.Words.{at-most-le}
 use borrow.Author.Needs.{needs}
 use Rattle.hit_object.proofs.generate_free.Statement.{statement}
 use Rattle.hit_object.proofs.generate_free.Tie as tie

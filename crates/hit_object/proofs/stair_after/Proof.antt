@@ -5,7 +5,7 @@ use native.Mathlib.Omega.{arith}
 use mathlib.Core.List.{map}
 use lib.ListN.{take, drop}
 use Rattle.mania.specs.HitObject.{stairAfter}
-use Rattle.hit_object.specs.Answers.{circleAt}
+use Rattle.circle_notes.specs.Answers.{circleAt}
 use Rattle.hit_object.proofs.Stairs.{after-more, after-end}
 use Rattle.hit_object.proofs.stair_after.Statement.{statement}
 use Rattle.hit_object.proofs.stair_after.Tie as tie

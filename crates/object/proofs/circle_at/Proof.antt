@@ -2,7 +2,7 @@
 use mathlib.Core.Path.{refl}
 use lib.Ieee.{round, ofBits}
 use Rattle.mania.specs.Made.{circle}
-use Rattle.hit_object.specs.Answers.{circleAt}
+use Rattle.circle_notes.specs.Answers.{circleAt}
 use borrow.Author.Needs.{needs}
 use Rattle.object.proofs.circle_at.Statement.{statement}
 use Rattle.object.proofs.circle_at.Tie as tie

@@ -5,7 +5,7 @@ use Rattle.random.specs.Play.{on}
 use Rattle.mania.specs.declared.HitObjectPatternGenerator.{HitObjectPatternGenerator}
 use Rattle.mania.specs.HitObject as HitObject
 use Rattle.pattern.specs.Answers.{Generates}
-use Rattle.hit_object.specs.Answers.{circleAt}
+use Rattle.circle_notes.specs.Answers.{circleAt}
 use borrow.Author.Needs.{needs}
 use Rattle.object.proofs.generate_circle.Statement.{statement}
 use Rattle.object.proofs.generate_circle.Tie as tie

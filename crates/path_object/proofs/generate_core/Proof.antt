@@ -4,7 +4,8 @@ use mathlib.Core.Path.{sym}
 use native.Mathlib.Omega.{arith}
 use Rattle.slider_notes.specs.Words.{ofWord}
 use Rattle.pattern.specs.Laws.Words.{empty-is}
-use Rattle.path_object.proofs.Bounds.{places, fits}
+use Rattle.slider_patterns.proofs.Bounds.{places}
+use Rattle.path_object.proofs.Bounds.{fits}
 use borrow.Author.Tests.{lt-ltb, le-ltb, eq-eqb, ne-eqb}
 use Rattle.mania.specs.PathObject.{generateCore}
 use Rattle.slider_notes.proofs.Words.{add-on}

@@ -2,7 +2,7 @@
 use borrow.Author.Needs.{needs}
 use Prim.Native.Nat.{_≤_}
 use native.Mathlib.Omega.{arith}
-use Rattle.path_object.proofs.Bounds.{places}
+use Rattle.slider_patterns.proofs.Bounds.{places}
 use borrow.Author.Tests.{lt-leb, le-leb}
 use mathlib.Core.Bool.{Bool, true, false}
 use lib.Dec.{leb}

@@ -1,7 +1,7 @@
 -- `path_object::generate_spans` meets its contract. Assumes nothing.
 use borrow.Author.Needs.{needs}
 use native.Mathlib.Omega.{arith}
-use Rattle.path_object.proofs.Bounds.{places}
+use Rattle.slider_patterns.proofs.Bounds.{places}
 use borrow.Author.Tests.{lt-leb, le-leb}
 use lib.Ieee.{round, ofBits}
 use Rattle.mania.specs.PatternType.{_⊔ₜ_}

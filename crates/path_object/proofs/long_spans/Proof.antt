@@ -1,7 +1,8 @@
 -- `path_object::long_spans` meets its contract. Assumes nothing.
 use borrow.Author.Needs.{needs}
 use native.Mathlib.Omega.{arith}
-use Rattle.path_object.proofs.Bounds.{places, few-spans}
+use Rattle.slider_patterns.proofs.Bounds.{places}
+use Rattle.path_object.proofs.Bounds.{few-spans}
 use borrow.Author.Tests.{lt-leb, le-leb}
 use lib.Ieee.{round, ofBits}
 use Rattle.mania.specs.PathObject.{percent}
