@@ -8,11 +8,9 @@ use lib.ListN.{length}
 use Rattle.model.specs.declared.Kind.{Kind}
 use Rattle.model.specs.declared.Kind.the-variants.{Circle, Slider, Spinner, Hold}
 use Rattle.model.specs.declared.Object.{Object}
-use Rattle.model.specs.Each.{Each}
 use Rattle.model.specs.Totals.{breakTime, longer, slidersAndSpinners}
 use Rattle.record.specs.declared.Summary.{Summary}
-use Rattle.record.specs.Record.{parse, accepted, songOf}
-use Rattle.record.specs.Fit.{FitObject, FitKind}
+use Rattle.record.specs.Record.{songOf}
 use Rattle.record.specs.Section.{breaks}
 use Rattle.record.specs.Object.{zeroStart, objects}
 use Rattle.record.specs.Laws.Known.{Known}
@@ -23,8 +21,6 @@ use Rattle.mania.specs.PatternGenerator.{conversionDifficulty}
 use Rattle.settings.specs.Accepted.{Accepted}
 use Rattle.settings.specs.Counts.{columnsBy, keysOr, difficultyOf}
 use Rattle.settings.specs.Laws.{columns-of, columns-deck, difficulty-of}
-use Rattle.object.specs.Range.{FewRepeats, InRange}
-use Rattle.job.proofs.Ranges as Ranges
 use Rattle.walk.specs.declared.Song.{Song}
 use Rattle.walk.specs.declared.WalkEnd.{WalkEnd}
 use Rattle.walk.specs.declared.WalkEnd.the-variants as E
@@ -67,26 +63,6 @@ module _ (bytes : List ℕ) (m : Summary) (k : Known bytes m) where
   settings-accepted =
       let fit = fit-song bytes (songOf bytes) (k .parsed) .settings in
       subst Accepted (sym (k .settings)) (record { hp = fit .hp .range; cs = fit .cs .range; od = fit .od .range; ar = fit .ar .range })
-
--- ---- the objects are in the generators' range
-
-few-repeats : (k : Kind) → FitKind k → FewRepeats k
-few-repeats Circle h = tt
-few-repeats (Slider repeats distance node) h = omega (arith, h .0)
-few-repeats (Spinner d) h = tt
-few-repeats (Hold d) h = tt
-
-in-range : (o : Object) → FitObject o → InRange o
-in-range o h =
-    let s = Ranges.fit-object o h .0 in
-    record { start = record { size = s .size; high = s .high }; repeats = few-repeats (o .kind) (h .kind) }
-
-all-in-range : (os : List Object) → Each FitObject os → Each InRange os
-all-in-range [] h = tt
-all-in-range (o ∷ os) h = (in-range o (h .0), all-in-range os (h .1))
-
-pub objects-in-range : (bytes : List ℕ) → parse bytes ≡ accepted (songOf bytes) → Each InRange (songOf bytes .objects)
-objects-in-range bytes e = all-in-range (songOf bytes .objects) (fit-song bytes (songOf bytes) e .objects)
 
 -- ---- the walk over the part is the walk over the song
 

@@ -1,4 +1,3 @@
--- What the checks' contracts cite beside the definition. `Range` says which values the generators take, and `Laws` that the checks leave only those.
+-- What the checks' contracts cite beside the definition. `Laws`: the checks leave only values that the generators take.
 pub mod Parts
-pub mod Range
 pub mod Laws

@@ -4,6 +4,7 @@ pub mod Patterns
 pub mod Values
 pub mod Wholes
 pub mod Ranges
+pub mod Spans
 pub mod Order
 pub mod Integers
 pub mod Times

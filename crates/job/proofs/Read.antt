@@ -1,16 +1,16 @@
 -- The chart of an accepted job is read: each note is one that the chart reader takes. Assumes nothing.
 use mathlib.Core.Path.{_≡_, refl, sym, ap, _∙_, subst}
-use Prim.Native.Nat.{ℕ, zero, suc, _+_, _-_, _*_, _^_, _≤_, _<_}
+use Prim.Native.Nat.{ℕ, suc, _+_, _-_, _*_, _^_, _≤_, _<_}
 use native.Mathlib.Nat.{le-trans, le-refl, lt-of-le-of-lt, lt-of-lt-of-le, zero-add}
 use native.Mathlib.Omega.{arith}
-use mathlib.Core.Bool.{Bool, true, false}
+use mathlib.Core.Bool.{true}
 use mathlib.Core.List.{List, [], _∷_, _++_, map}
 use mathlib.Core.Option.{some}
 use lib.Dec.{T, lit≤}
 use borrow.Author.Tests.{ltb-true}
 use lib.ListN.{length, take, drop, length-append, length-drop}
 use lib.Seq.{take-at}
-use lib.Ieee.{Float, binary64, fits, toBits}
+use lib.Ieee.{Float, binary64, fits}
 use Rattle.rules.specs.Rule.{Outcome, ended, run, taken, Done}
 use Rattle.rules.specs.Rule as Rule
 use Rattle.random.specs.Generator.{values, seeded}
@@ -35,12 +35,12 @@ use Rattle.mania.specs.LimitedQueue.{Density}
 use Rattle.mania.specs.Chart.{patternOf, arranged, inWalkOrder, encode, written}
 use Rattle.model.specs.Song.{Song}
 use Rattle.mania.specs.Convert.{AtObject, seed, columnsOf, factsAt, convert}
-use Rattle.mania.specs.Job.{Job, ending, refusing, under}
+use Rattle.mania.specs.Job.{ending, refusing, under}
 use Rattle.mania.specs.Job as OfSong
 use Rattle.mania.specs.Demand.{Each}
 use Rattle.mania.specs.Demand as Draws
-use Rattle.mania.proofs.Demand.{Fine, Sound, Notes, ended-notes, some-columns, few-columns}
-use Rattle.mania.proofs.Counts.{Short, ended-few, ended-room}
+use Rattle.mania.proofs.Demand.{Fine, Sound, ended-notes, some-columns, few-columns}
+use Rattle.mania.proofs.Counts.{ended-few, ended-room}
 use Rattle.mania.proofs.Order.{Times, arranged-patterns}
 use Rattle.record.specs.Record.{Parsed, refused, accepted, parse}
 use Rattle.job.specs.Job.{jobOf, job, columnsIn, columns, drawsOf, draws, notesIn, notesOf, notes}
@@ -48,7 +48,7 @@ use Rattle.job.specs.Read.{chartNotes, Reads}
 use Rattle.job.proofs.Numbers.{accepted-keys}
 use Rattle.job.proofs.Demand.{refuses, accepted-ended}
 use Rattle.job.proofs.Times.{Span, Okay, circle-notes, end-notes, bar-notes}
-use Rattle.job.proofs.Ranges.{FitKind, FitObject, FitSong, fit-song}
+use Rattle.job.proofs.Ranges.{FitKind, FitObject, FitSong, fit-song, objects-in-range}
 use Rattle.job.proofs.Sliders.{beat-at, velocity-at, not-before}
 
 -- ---- the notes that can come from the objects of an accepted record
@@ -117,16 +117,6 @@ length-patterns : (ns : List Note) → length (map patternOf ns) ≡ length ns
 length-patterns [] = refl
 length-patterns (n ∷ ns) = ap suc (length-patterns ns)
 
-kind-short : (k : Kind) → FitKind k → Short k
-kind-short Circle h = tt
-kind-short (Slider repeats distance node) h = h .0
-kind-short (Spinner d) h = tt
-kind-short (Hold d) h = tt
-
-objects-short : (os : List Object) → Each FitObject os → Each (λ o. Short (o .kind)) os
-objects-short [] h = tt
-objects-short (o ∷ os) h = (kind-short (o .kind) (h .0 .1), objects-short os (h .1))
-
 module _ (s buffer : List ℕ) (r : Song) (e : parse s ≡ accepted r) (a n : ℕ) (nss : List (List Note)) (u : under r buffer a ≡ ended nss n) where
   pub okay-all : Each (Okay (columnsOf r)) (inWalkOrder nss)
   okay-all =
@@ -154,7 +144,7 @@ module _ (s buffer : List ℕ) (r : Song) (e : parse s ≡ accepted r) (a n : �
   few-all =
       let fit = fit-song s r e in
       below (length (inWalkOrder nss)) (length (r .objects))
-      (ended-few r buffer (few-columns r (accepted-keys s r e)) (objects-short (r .objects) (fit .objects)) a n nss u) (fit .few)
+      (ended-few r buffer (few-columns r (accepted-keys s r e)) (objects-in-range s r e) a n nss u) (fit .few)
     where
       below : (k n : ℕ) → k ≤ 2050 * n → n ≤ 4095 → k < 2 ^ 24
       below k n h l = omega arith

@@ -15,6 +15,7 @@ use lib.Ieee.Positive.{num, den, den-pos, value→cross}
 use Rattle.rules.specs.Rule.{if_then_else_}
 use Rattle.floats.specs.Narrow.{narrowed}
 use Rattle.floats.specs.Laws.Values.{Sized, sized, mul-at-most, div-at-most, div-value, round-at-most, sum-at-most, add-ge}
+use Rattle.floats.specs.Laws.Spans.{AtLeast}
 use Rattle.floats.specs.Laws.Wholes.{count-lt, count-ge}
 use Rattle.floats.specs.declared.Way.the-variants.{Floor, Even}
 use Rattle.mania.specs.declared.Facts.{Facts}
@@ -28,7 +29,7 @@ use Rattle.model.specs.ControlPoint.{beatFrom, beatAt, velocityFrom, velocityAt
 use Rattle.mania.specs.PathObject.{adjustedBeat, distanceOf, startTime, endTime}
 use Rattle.mania.specs.Demand.{Each}
 use Rattle.job.proofs.Times.{Span}
-use Rattle.job.proofs.Ranges.{AtLeast, FitDistance}
+use Rattle.job.proofs.Ranges.{FitDistance}
 
 -- a number from 0 to n
 abbrev Upto : ℕ → Float → Type 0
@@ -59,7 +60,7 @@ pub beat-at : (ps : List TimingPoint) (time : Float) → Each (λ (t : TimingPoi
 unfolding beatAt
 beat-at [] time k =
     let u = whole-upto binary64 1000 60000 (lit≤ tt) (lit≤ tt) in
-    record { exact = round-fits binary64 false 1000 1; size = u .0; high = u .1 }
+    record { exact = round-fits binary64 false 1000 1; range = record { size = u .0; high = u .1 } }
 beat-at (p ∷ ps) time k = beat-from (p .beat) ps time (k .0) (k .1)
 
 velocity-from : (v : Float) (ps : List DifficultyPoint) (time : Float) → AtLeast 10 v → Each (λ (t : DifficultyPoint). AtLeast 10 (t .velocity)) ps → AtLeast 10 (velocityFrom v ps time)
@@ -155,14 +156,14 @@ module _ (velocity beat : Float) (h : AtLeast 10 velocity) (k : Span 60000 beat)
   unfolding adjustedBeat
   adjusted =
       let m = pick 100 (lt asBeat (double 0 1)) _ _ part (whole-upto binary64 1 100 (lit≤ tt) (lit≤ tt)) in
-      mul-at-most binary64 beat _ 60000 100 (k .size) (m .0) (k .high) (m .1) (lit≤ tt)
+      mul-at-most binary64 beat _ 60000 100 (k .range .size) (m .0) (k .range .high) (m .1) (lit≤ tt)
 
 -- ---- the end
 
 distance-upto : (d : Distance) → FitDistance d → Upto 131072 (distanceOf d)
 unfolding distanceOf
 distance-upto D.Missing h = whole-upto binary64 0 131072 (lit≤ tt) (lit≤ tt)
-distance-upto (D.Given d) h = (h .size, h .high)
+distance-upto (D.Given d) h = (h .range .size, h .range .high)
 
 hundredth-upto : Upto 1 (double 1 100)
 unfolding round

@@ -1,13 +1,13 @@
 -- Times in range: what a note's start and duration come to in ticks, and when the chart reader takes the note. Assumes nothing.
 use mathlib.Core.Path.{_≡_, refl, sym, ap, _∙_, subst}
 use Prim.Native.Nat.{ℕ, zero, suc, _+_, _-_, _*_, _^_, _≤_, _<_}
-use native.Mathlib.Nat.{le-trans, le-of-eq, mul-comm, mul-assoc, mul-one, mul-pos, mul-le-mul-right, le-of-mul-le-mul-right, zero-mul, add-mul}
+use native.Mathlib.Nat.{le-trans, le-of-eq, mul-one, mul-pos, mul-le-mul-right, le-of-mul-le-mul-right, zero-mul, add-mul}
 use native.Mathlib.Omega.{arith}
-use mathlib.Core.Bool.{Bool, true, false, not}
-use lib.Dec.{T, ltb, leb, eqb, lit≤, lit<}
+use mathlib.Core.Bool.{Bool, true, false}
+use lib.Dec.{T, leb, eqb, lit≤, lit<}
 use lib.Pow.{pow-pos}
 use lib.IntN.{pos}
-use lib.Ieee.{Float, nan, inf, fin, binary64, fits, round, ofInt, toBits, le}
+use lib.Ieee.{Float, binary64, fits, round, toBits, le}
 use lib.Ieee as Ieee
 use lib.Ieee.Fits.{round-fits, ofInt-fits, sub-fits}
 use lib.Ieee.Exact.{HasValue}
@@ -17,6 +17,7 @@ use borrow.Author.Tests.{lt-ltb, le-leb, eqb-false}
 use Rattle.rules.specs.Rule.{if_then_else_}
 use Rattle.floats.specs.Laws.Values.{Sized, sized, rest-sized, end-at-most}
 use Rattle.floats.specs.Laws.Ranges.{le-sizes}
+use Rattle.floats.specs.Laws.Spans.{UpTo}
 use Rattle.floats.specs.Laws.Integers.{int-value, sub-ints}
 use Rattle.floats.specs.Laws.Times.{ticks-value}
 use Rattle.floats.specs.Range.{inRange}
@@ -26,7 +27,6 @@ use Rattle.chart.specs.Chart.{okNote, lasts}
 use Rattle.chart.specs.Laws.Times.{value-time, time-toBits}
 use Rattle.chart.specs.Laws.Reader.{note-decided}
 use Rattle.mania.specs.declared.Note.{Note}
-use Rattle.mania.specs.declared.SliderNote.{SliderNote}
 use Rattle.model.specs.declared.Object.{Object}
 use Rattle.mania.specs.Steps.{double, double#}
 use Rattle.mania.specs.Made.{circle}
@@ -37,8 +37,7 @@ use Rattle.mania.specs.EndTimeObject
 -- an f64 from 0 to n
 pub record Span (n : ℕ) (x : Float) : Type 0 where
   pub exact : T (fits binary64 x)
-  pub size : Sized x
-  pub high : num x ≤ n * den x
+  pub range : UpTo n x
 
 sized-time : (x : Float) → Sized x → isTime x ≡ true
 sized-time x v = value-time x (num x) (den x) (den-pos x) v
@@ -63,7 +62,7 @@ some-ticks N D zero k n h e = let z : 0 < N * k = mul-pos n h in omega (arith, z
 some-ticks N D (suc t) k n h e = omega arith
 
 pub ticks-at-most : (n : ℕ) (x : Float) → Span n x → ticks x ≤ n * 2 ^ 1074
-ticks-at-most n x h = bound (num x) (den x) (ticks x) (2 ^ 1074) n (den-pos x) (ticks-cross x (h .exact) (h .size)) (h .high)
+ticks-at-most n x h = bound (num x) (den x) (ticks x) (2 ^ 1074) n (den-pos x) (ticks-cross x (h .exact) (h .range .size)) (h .range .high)
 
 ticks-some : (x : Float) → T (fits binary64 x) → Sized x → 0 < num x → 0 < ticks x
 ticks-some x f v h = some-ticks (num x) (den x) (ticks x) (2 ^ 1074) h (pow-pos 1074) (ticks-cross x f v)
@@ -112,7 +111,7 @@ early t h = le-trans h (lit≤ tt)
 -- ---- a circle
 
 pub circle-notes : (columns : ℕ) (x : Float) → Span 16777215 x → (c : ℕ) → c < columns → Okay columns (circle c x)
-circle-notes columns x h c on = circle-okay columns c on x (h .exact) (h .size) (early (ticks x) (ticks-at-most 16777215 x h))
+circle-notes columns x h c on = circle-okay columns c on x (h .exact) (h .range .size) (early (ticks x) (ticks-at-most 16777215 x h))
 
 -- ---- a note that ends with a spinner or a hold
 
@@ -132,7 +131,7 @@ module _ (columns : ℕ) (o : Object) (duration : Float) (h : Span 16777215 (o .
 
   r-sized : Sized r
   unfolding EndTimeObject.lasting
-  r-sized = rest-sized binary64 (o .start) duration (h .exact) (h .size) (k .size) 16777215 16777215 (h .high) (k .high) (lit< tt)
+  r-sized = rest-sized binary64 (o .start) duration (h .exact) (h .range .size) (k .range .size) 16777215 16777215 (h .range .high) (k .range .high) (lit< tt)
 
   r-fits : T (fits binary64 r)
   unfolding EndTimeObject.lasting
@@ -142,8 +141,8 @@ module _ (columns : ℕ) (o : Object) (duration : Float) (h : Span 16777215 (o .
   unfolding EndTimeObject.lasting
   r-ends =
       bound-two (num (o .start)) (den (o .start)) (ticks (o .start)) (num r) (den r) (ticks r) (2 ^ 1074) 33554431 (den-pos (o .start)) (den-pos r)
-      (ticks-cross (o .start) (h .exact) (h .size)) (ticks-cross r r-fits r-sized)
-      (end-at-most binary64 (o .start) duration (h .exact) (h .size) (k .size) 16777215 16777215 (h .high) (k .high) (lit< tt))
+      (ticks-cross (o .start) (h .exact) (h .range .size)) (ticks-cross r r-fits r-sized)
+      (end-at-most binary64 (o .start) duration (h .exact) (h .range .size) (k .range .size) 16777215 16777215 (h .range .high) (k .range .high) (lit< tt))
 
   r-lasts : le (double 100 1) r ≡ true → lasts true (toBits binary64 r) ≡ true
   unfolding lasts
@@ -158,7 +157,7 @@ module _ (columns : ℕ) (o : Object) (duration : Float) (h : Span 16777215 (o .
   unfolding EndTimeObject.endNote
   end-notes c on =
       either columns (le (double 100 1) r) _ _
-      (λ e. note-okay columns c on (o .start) (h .exact) (h .size) true r r-fits (sized-time r r-sized) (r-lasts e) r-ends)
+      (λ e. note-okay columns c on (o .start) (h .exact) (h .range .size) true r r-fits (sized-time r r-sized) (r-lasts e) r-ends)
       (λ e. circle-notes columns (o .start) h c on)
 
 -- ---- a slider's bar
@@ -167,7 +166,7 @@ int-span : (n : ℕ) → n ≤ 2 ^ 53 → Span n (double# n)
 int-span n h =
     let x = double# n in
     let v = int-value binary64 n h in
-    record { exact = ofInt-fits binary64 (pos n); size = sized x n 1 v; high = le-of-eq (sym (mul-one (num x)) ∙ value→cross x n 1 v) }
+    record { exact = ofInt-fits binary64 (pos n); range = record { size = sized x n 1 v; high = le-of-eq (sym (mul-one (num x)) ∙ value→cross x n 1 v) } }
 
 int-some : (n : ℕ) → 0 < n → n ≤ 2 ^ 53 → 0 < num (double# n)
 int-some n p h =
@@ -205,13 +204,13 @@ module _ (columns c t e : ℕ) (on : c < columns) (l : t ≤ e) (m : e ≤ 33554
   held x =
       let p : 0 < e - t = omega arith in
       rw (sub-ints binary64 e t (small e m) (small t t-le) l)
-      (note-okay columns c on (double# t) (at .exact) (at .size) true (double# (e - t)) (for .exact) (sized-time (double# (e - t)) (for .size))
-      (rw (time-toBits (double# (e - t)) (for .exact)) (lt-ltb 0 (ticks (double# (e - t))) (ticks-some (double# (e - t)) (for .exact) (for .size) (int-some (e - t) p (small (e - t) d-le)))))
+      (note-okay columns c on (double# t) (at .exact) (at .range .size) true (double# (e - t)) (for .exact) (sized-time (double# (e - t)) (for .range .size))
+      (rw (time-toBits (double# (e - t)) (for .exact)) (lt-ltb 0 (ticks (double# (e - t))) (ticks-some (double# (e - t)) (for .exact) (for .range .size) (int-some (e - t) p (small (e - t) d-le)))))
       (sum _ _ (2 ^ 1074) (ticks-at-most t (double# t) at) (ticks-at-most (e - t) (double# (e - t)) for)))
 
   pub bar-notes : Okay columns (PathObject.noteOf (record { column = c; start = t; end = e }))
   unfolding PathObject.noteOf
   bar-notes =
       either columns (eqb t e) _ _
-      (λ q. circle-okay columns c on (double# t) (at .exact) (at .size) (le-trans (ticks-at-most t (double# t) at) (mul-le-mul-right (2 ^ 1074) t-le)))
+      (λ q. circle-okay columns c on (double# t) (at .exact) (at .range .size) (le-trans (ticks-at-most t (double# t) at) (mul-le-mul-right (2 ^ 1074) t-le)))
       (λ q. held (eqb-false t e q))

@@ -28,6 +28,7 @@ use Rattle.mania.specs.HitObject
 use Rattle.mania.specs.EndTimeObject
 use Rattle.mania.specs.PathObject
 use Rattle.mania.specs.Object.{byKind, object}
+use Rattle.mania.specs.Range.{FewRepeats, InRange}
 use Rattle.mania.specs.Chart.{inWalkOrder}
 use Rattle.mania.specs.Convert
 use Rattle.model.specs.Song.{Song}
@@ -271,13 +272,6 @@ slider-few g deck spans fits =
 
 -- ---- of each object, and of a walk
 
--- a slider repeats at most 1,023 times
-abbrev pub Short : Kind → Type 0
-Short Circle = Unit {0}
-Short (Slider repeats distance node) = repeats ≤ 1023
-Short (Spinner duration) = Unit {0}
-Short (Hold duration) = Unit {0}
-
 end-few : (v : PrevValues) (columns : ℕ) (o : Object) (duration : Float) → Makes (λ made. length (made .notes) ≤ 2050) (EndTimeObject.generate v columns o duration)
 unfolding EndTimeObject.generate put empty
 end-few v columns o duration =
@@ -290,7 +284,7 @@ module _ (columns : ℕ) (some : 1 ≤ columns) (deck : columns ≤ 9) where
       less (circle-differ (HitObject.new f v columns o) (λ n. n .column < columns) (λ c l. l) some)
       (λ made h. le-trans (pigeons (λ (n : Note). n .column) columns (made .notes) (h .0) (h .1)) (le-trans deck (lit≤ tt)))
 
-  kind-few : (f : Facts) (v : PrevValues) (o : Object) (k : Kind) → Short k → Makes (λ made. length (made .notes) ≤ 2050) (byKind f v columns o k)
+  kind-few : (f : Facts) (v : PrevValues) (o : Object) (k : Kind) → FewRepeats k → Makes (λ made. length (made .notes) ≤ 2050) (byKind f v columns o k)
   unfolding byKind PathObject.new PathObject.spanLength
   kind-few f v o Circle h = circle-few f v o
   kind-few f v o (Slider repeats distance node) h =
@@ -303,17 +297,17 @@ module _ (columns : ℕ) (some : 1 ≤ columns) (deck : columns ≤ 9) where
   kind-few f v o (Hold duration) h = end-few v columns o duration
 
   -- of an object's rule that was played
-  pub object-count : (f : Facts) (v : PrevValues) (o : Object) → Short (o .kind) → (d : Draws) (m : Made) (e : Draws) → on (object f v columns o) d ≡ found m e → length (m .notes) ≤ 2050
+  pub object-count : (f : Facts) (v : PrevValues) (o : Object) → FewRepeats (o .kind) → (d : Draws) (m : Made) (e : Draws) → on (object f v columns o) d ≡ found m e → length (m .notes) ≤ 2050
   unfolding object
   object-count f v o h d m e k = gives (λ (m : Made). length (m .notes) ≤ 2050) (object f v columns o) (kind-few f v o (o .kind) h .made) d m e k
 
-  object-few : (room : ℕ) (f : Facts) (w : Walk) (o : Object) → Short (o .kind) → Makes (λ made. length (made .notes) ≤ 2050) (Convert.objectIn columns room f w o)
+  object-few : (room : ℕ) (f : Facts) (w : Walk) (o : Object) → FewRepeats (o .kind) → Makes (λ made. length (made .notes) ≤ 2050) (Convert.objectIn columns room f w o)
   unfolding Convert.objectIn object
   object-few room f w o h =
       seq (kind-few f (w .prev) o (o .kind) h)
       (λ made h. by (ltb room (8 + 17 * (w .notes + length (made .notes)))) _ _ (λ e. refusing) (λ e. giving h))
 
-  walk-few : (s : Song) (difficulty : Float) (room i : ℕ) (w : Walk) (os : List Object) → Each (λ o. Short (o .kind)) os
+  walk-few : (s : Song) (difficulty : Float) (room i : ℕ) (w : Walk) (os : List Object) → Each InRange os
       → Makes (λ nss. length (inWalkOrder nss) ≤ 2050 * length os) (Convert.walk s difficulty columns room i w os)
   unfolding Convert.walk inWalkOrder
   walk-few s difficulty room i w [] h = giving (omega arith)
@@ -321,20 +315,20 @@ module _ (columns : ℕ) (some : 1 ≤ columns) (deck : columns ≤ 9) where
       let d = Convert.meets (o .kind) (o .start) (w .density) in
       let f = Convert.factsAt s difficulty d o in
       seq {P = λ (made : Made). length (made .notes) ≤ 2050}
-      (record { made = label-gives (λ (made : Made). length (made .notes) ≤ 2050) (λ p. i) (at i) (Convert.objectIn columns room f w o) (object-few room f w o (h .0) .made) })
+      (record { made = label-gives (λ (made : Made). length (made .notes) ≤ 2050) (λ p. i) (at i) (Convert.objectIn columns room f w o) (object-few room f w o (h .0 .repeats) .made) })
       (λ made k. seq (walk-few s difficulty room (suc i) (Convert.afterObject f o d made w) os (h .1))
       (λ rest l. giving (more (length (made .notes)) (length (inWalkOrder rest)) (length os) k l (length-append (made .notes) (inWalkOrder rest)))))
     where
       more : (a b n : ℕ) {c : ℕ} → a ≤ 2050 → b ≤ 2050 * n → c ≡ a + b → c ≤ 2050 * suc n
       more a b n h k e = omega arith
 
-convert-few : (s : Song) (room : ℕ) → columnsOf s ≤ 9 → Each (λ o. Short (o .kind)) (s .objects)
+convert-few : (s : Song) (room : ℕ) → columnsOf s ≤ 9 → Each InRange (s .objects)
     → Makes (λ nss. length (inWalkOrder nss) ≤ 2050 * length (s .objects)) (convert s room)
 unfolding convert
 convert-few s room deck h = by (ltb room 8) _ _ (λ e. refusing) (λ e. walk-few (columnsOf s) (some-columns s) deck s _ room 0 _ (s .objects) h)
 
 -- the number of an accepted job's notes
-pub ended-few : (s : Song) (buffer : List ℕ) → columnsOf s ≤ 9 → Each (λ o. Short (o .kind)) (s .objects) → (a n : ℕ) (nss : List (List Note)) → under s buffer a ≡ ended nss n
+pub ended-few : (s : Song) (buffer : List ℕ) → columnsOf s ≤ 9 → Each InRange (s .objects) → (a n : ℕ) (nss : List (List Note)) → under s buffer a ≡ ended nss n
     → length (inWalkOrder nss) ≤ 2050 * length (s .objects)
 unfolding under
 ended-few s buffer deck h a n nss e = ran _ (convert s (length buffer)) (convert-few s (length buffer) deck h .made) (seeded (seed (s .settings))) a nss n e

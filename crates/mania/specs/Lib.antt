@@ -11,6 +11,7 @@ pub mod EndTimeObject
 pub mod HitObject
 pub mod PathObject
 pub mod Object
+pub mod Range
 pub mod Convert
 pub mod Chart
 pub mod Walked

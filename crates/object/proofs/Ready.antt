@@ -4,6 +4,7 @@ use native.Mathlib.Nat.{div-mul-le-self}
 use native.Mathlib.Omega.{arith}
 use lib.Ieee.Positive.{num, den, den-pos}
 use Rattle.floats.specs.Laws.Wholes.{count-le}
+use Rattle.floats.specs.Laws.Spans.{UpTo}
 use Rattle.floats.specs.declared.Way.the-variants.{Even}
 use Rattle.model.specs.declared.Distance.{Distance}
 use Rattle.model.specs.declared.NodeSound.{NodeSound}
@@ -12,7 +13,6 @@ use Rattle.mania.specs.declared.Facts.{Facts}
 use Rattle.mania.specs.declared.PrevValues.{PrevValues}
 use Rattle.mania.specs.PathObject as PathObject
 use Rattle.path_object.specs.Parts.{Ready}
-use Rattle.object.specs.Range.{UpTo}
 
 start-early : (o : Object) → UpTo 16777215 (o .start) → PathObject.startTime o ≤ 16777215
 unfolding PathObject.startTime

@@ -8,11 +8,11 @@ use Rattle.model.specs.declared.Object.{Object}
 use Rattle.mania.specs.declared.Facts.{Facts}
 use Rattle.mania.specs.declared.PrevValues.{PrevValues}
 use Rattle.mania.specs.Object.{object}
+use Rattle.mania.specs.Range.{InRange}
 use Rattle.pattern.specs.Answers.{objectEnd}
 use Rattle.pattern.specs.declared.ObjectEnd.{ObjectEnd}
 use Rattle.pattern.specs.declared.ObjectEnd.the-variants as E
 use Rattle.object.specs.Notes.{noteAt}
-use Rattle.object.specs.Range.{InRange}
 
 -- a deck, a previous pattern on it, an object in range, and two buffers of at least 2,050 words
 pub record Asks (v : PrevValues) (columns : ℕ) (o : Object) (size spareSize : ℕ) : Type 0 where

@@ -12,8 +12,6 @@ use Rattle.random.specs.Play.{found, on}
 use Rattle.random.specs.Laws.Allowance.{found-run}
 use Rattle.random.specs.declared.Random.{Random}
 use Rattle.random.specs.declared.Draws.{Draws}
-use Rattle.model.specs.declared.Kind.{Kind}
-use Rattle.model.specs.declared.Kind.the-variants.{Circle, Slider, Spinner, Hold}
 use Rattle.model.specs.declared.Object.{Object}
 use Rattle.chart.specs.Bytes.{splice}
 use Rattle.mania.specs.declared.Facts.{Facts}
@@ -24,21 +22,12 @@ use Rattle.mania.specs.Made.{Made}
 use Rattle.mania.specs.Object.{object}
 use Rattle.mania.specs.Single.{Single, made, refusing, entryRefusal, singleObject}
 use Rattle.mania.specs.Laws.Singles.{single-full, single-made}
-use Rattle.entry.specs.Range.{FitKind}
 use Rattle.entry.specs.Laws.{checked}
 use Rattle.pattern.specs.declared.Pattern.{Pattern}
 use Rattle.object.specs.Notes.{noteAt}
-use Rattle.object.specs.Range.{FewRepeats}
-use Rattle.object.specs.Range as Range
 use Rattle.object.specs.Contract.{Asks}
 use Rattle.single.specs.declared.SingleEnd.{SingleEnd}
 use Rattle.single.specs.Ends.{singleEnd, Keeps, full, kept}
-
-few : (k : Kind) → FitKind k → FewRepeats k
-few Circle h = tt
-few (Slider repeats distance node) h = h .0
-few (Spinner d) h = tt
-few (Hold d) h = tt
 
 -- values that no check refuses are those that a generator takes
 pub asks : (f : Facts) (v : PrevValues) (columns : ℕ) (o : Object) (m n : ℕ) → entryRefusal f v columns o ≡ 0 → 2050 ≤ m → 2050 ≤ n → Asks v columns o m n
@@ -49,7 +38,7 @@ asks f v columns o m n e w s =
       high = c .high;
       mask = c .mask;
       last = c .last;
-      range = record { start = record { size = c .range .start .size; high = c .range .start .high }; repeats = few (o .kind) (c .range .kind) };
+      range = c .range;
       words = w;
       spare = s;
     }

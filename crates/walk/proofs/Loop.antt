@@ -27,9 +27,9 @@ use Rattle.mania.specs.Chart.{body, patternOf, inWalkOrder}
 use Rattle.mania.specs.Convert.{afterObject, beginning}
 use Rattle.mania.specs.Convert as Convert
 use Rattle.mania.specs.Walked.{Stop, stop, onWalk}
+use Rattle.mania.specs.Range.{InRange}
 use Rattle.mania.specs.Laws.Walks.{before, walk-none, walk-refused, walk-full, walk-made}
 use Rattle.density.specs.Queued.{Held}
-use Rattle.object.specs.Range.{InRange}
 use Rattle.walk.specs.declared.Song.{Song}
 use Rattle.walk.specs.declared.Walk.{Walk}
 use Rattle.walk.specs.Kept.{walkOf}

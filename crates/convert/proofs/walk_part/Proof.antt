@@ -11,8 +11,9 @@ use Rattle.model.specs.Each.{Each}
 use Rattle.record.specs.Refusal.{entries}
 use Rattle.record.specs.Object.{objects}
 use Rattle.record.specs.Record.{songOf}
-use Rattle.object.specs.Range.{InRange}
-use Rattle.convert.proofs.Songs.{objects-in-range, played}
+use Rattle.mania.specs.Range.{InRange}
+use Rattle.job.proofs.Ranges.{objects-in-range}
+use Rattle.convert.proofs.Songs.{played}
 use borrow.Author.Needs.{needs}
 use Rattle.convert.proofs.walk_part.Statement.{statement}
 use Rattle.convert.proofs.walk_part.Tie as tie
@@ -84,7 +85,7 @@ walk-objects-requires-2 c κs =
     let first = s .args .m .places .objects in (
       s .pre .1 .sung,
       subst (λ (part : List ℕ). Each InRange (objects part (first % 8) (s .args .m .counts .objects))) (sym (rest-part bytes (first / 8)))
-          (subst (Each InRange) (k .objects) (objects-in-range bytes (k .parsed))),
+          (subst (Each InRange) (k .objects) (objects-in-range bytes (songOf bytes) (k .parsed))),
       omega arith,
       omega (arith, k .small .objects-le),
       omega (arith, s .pre .2),

@@ -1,7 +1,7 @@
 -- `object::generate` meets its contract, kind by kind. Assumes nothing.
 use mathlib.Core.Path.{subst}
 use native.Mathlib.Omega.{arith}
-use Rattle.object.specs.Range.{FewRepeats}
+use Rattle.mania.specs.Range.{FewRepeats}
 use Rattle.object.proofs.Decks.{circle-ends, slider-ends, spinner-ends, hold-ends}
 use borrow.Author.Needs.{needs}
 use Rattle.object.proofs.generate.Statement.{statement}

@@ -4,10 +4,10 @@ use mathlib.Core.Path.{sym, ap, _∙_, subst}
 use Prim.Native.Nat.{_≤_}
 use native.Mathlib.Omega.{arith}
 use lib.ListN.{length}
+use Rattle.mania.specs.Range.{InRange}
 use Rattle.pattern.specs.Answers.{objectEnd}
 use Rattle.object.specs.Notes.{noteAt}
 use Rattle.object.specs.Contract.{OnDeck}
-use Rattle.object.specs.Range.{InRange}
 use Rattle.walk.proofs.Objects.{finished, refused-step}
 use borrow.Author.Needs.{needs}
 use Rattle.walk.proofs.convert_object.Statement.{statement}

@@ -1,16 +1,9 @@
 -- What a generator asks of an object's fields: a start of 0 to 16,777,215, and at most 1,023 repeats. Assumes nothing.
-use Prim.Native.Nat.{ℕ, _*_, _≤_}
-use lib.Ieee.{Float}
-use lib.Ieee.Positive.{num, den}
-use Rattle.floats.specs.Laws.Values.{Sized}
+use Prim.Native.Nat.{_≤_}
+use Rattle.floats.specs.Laws.Spans.{UpTo}
 use Rattle.model.specs.declared.Kind.{Kind}
 use Rattle.model.specs.declared.Kind.the-variants.{Circle, Slider, Spinner, Hold}
 use Rattle.model.specs.declared.Object.{Object}
-
--- a number from 0 to n
-pub record UpTo (n : ℕ) (x : Float) : Type 0 where
-  pub size : Sized x
-  pub high : num x ≤ n * den x
 
 -- of a slider, its repeats
 abbrev pub FewRepeats : Kind → Type 0
