@@ -1,4 +1,4 @@
-// The generator: Marsaglia's xor128, its state by value, and what is drawn from it.
+// The generator: Marsaglia's xor128, and what is drawn from it. A step is by value; `next` takes one in a state that is lent, and every draw goes through it.
 ghost use mathlib.Core.Path.{_≡_};
 ghost use Prim.Native.Nat.{_+_, _-_, _*_, _^_, _≤_, _<_};
 ghost use Rattle.random.specs.Generator.{seeded, next, low, between, unit};
@@ -23,6 +23,12 @@ pub struct Draws {
 pub enum Drawn {
     Value(u32, Draws),
     Spent,
+}
+
+// A state, and the value of the step that made it.
+struct Stepped {
+    random: Random,
+    value: u32,
 }
 
 // The state that a seed gives.
@@ -57,6 +63,23 @@ pub fn low_bits(r: Random) -> u32
     r.w & 0x7fff_ffff
 }
 
+// One step of a state that is lent, and its value.
+pub fn next(random: &mut Random) -> u32
+    ensures { λ v. ⌜ (now (random .exit) ≡ next (now (random .entry))) × (v ≡ low (next (now (random .entry)))) ⌝ }
+{
+    let s = step(*random);
+    *random = s;
+    low_bits(s)
+}
+
+// Lends a state for one step.
+fn lent_step(mut random: Random) -> Stepped
+    ensures { λ r. ⌜ (r .random ≡ next random) × (r .value ≡ low (next random)) ⌝ }
+{
+    let value = next(&mut random);
+    Stepped { random, value }
+}
+
 // One draw: a step, where one is left.
 pub fn draw(d: Draws) -> Drawn
     ensures { λ r. ⌜ drawn d r ≡ on value d ⌝ }
@@ -65,10 +88,10 @@ pub fn draw(d: Draws) -> Drawn
     if left == 0 {
         return Drawn::Spent;
     }
-    let random = step(d.random);
-    let v = low_bits(random);
+    let s = lent_step(d.random);
+    let random = s.random;
     Drawn::Value(
-        v,
+        s.value,
         Draws {
             random,
             left: left - 1,

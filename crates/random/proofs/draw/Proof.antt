@@ -1,6 +1,5 @@
 -- `random::draw` meets its contract: with no draw left it is `draw-none`, else the rule goes on at the value of the next step.
 -- Assumes nothing.
-use Prim.Native.Nat.{ℕ}
 use borrow.Author.Needs.{needs}
 use Rattle.rules.specs.Rule.{give}
 use Rattle.rules.specs.Refusal.{number, spentNumber}
@@ -13,11 +12,8 @@ use Rattle.random.proofs.draw.Tie as tie
 returns : tie.Need-returns
 returns c = sym (draw-none (λ p. spentNumber) number tt give (c .before .args .d) (c .if1 .taken))
 
-step-requires : tie.Need-step-requires
-step-requires c κs = search needs
-
-low-bits-requires : tie.Need-low-bits-requires
-low-bits-requires c κs = search needs
+lent-step-requires : tie.Need-lent-step-requires
+lent-step-requires c κs = search needs
 
 sub-t6 : tie.Need-sub-t6
 sub-t6 c = search needs
@@ -26,7 +22,8 @@ returns-2 : tie.Need-returns-2
 unfolding play
 returns-2 c =
     let d = c .before .before .before .args .d in
-    rw (draw-some (λ p. spentNumber) number (tt {0}) give (d .left) (d .random) (c .before .before .if1 .left), c .low-bits .ensures, c .before .step .ensures)
+    let s = c .before .lent-step .ensures in
+    rw (draw-some (λ p. spentNumber) number (tt {0}) give (d .left) (d .random) (c .before .before .if1 .left), s .0, s .1)
 
 pub draw-spec : {M : Type 1} → statement M
-draw-spec = tie.close (tie.spec returns step-requires low-bits-requires sub-t6 returns-2)
+draw-spec = tie.close (tie.spec returns lent-step-requires sub-t6 returns-2)
