@@ -1,7 +1,5 @@
 //! The job: record, walk of the unchanged `convert`, chart.
 
-use std::hint;
-
 use entry::JobEnd;
 
 use crate::{
@@ -113,6 +111,7 @@ fn try_job(record: &[u8], chart: &mut [u8], allowance: u64) -> JobEnd {
 }
 
 /// A record read once, for timing the plain `convert`.
+#[derive(Clone)]
 pub struct Prepared {
     map: Beatmap,
     mods: GameMods,
@@ -129,19 +128,35 @@ pub fn prepare(record: &[u8]) -> Option<Prepared> {
     Some(Prepared { map, mods })
 }
 
-impl Prepared {
-    /// Clones the map and runs `convert` on the clone, with no limit on draws. Notes and draws;
-    /// `None` where it stops with 9 or 10.
-    pub fn convert(&self) -> Option<(u32, u32)> {
-        let walk = walk_all(self.map.clone(), &self.mods, u64::MAX);
-        let made = walk.end.ok()?;
+/// What `convert` made of a map. It still holds the notes, so that their drop need not be timed.
+pub struct Converted {
+    map: Beatmap,
+    draws: u64,
+}
 
-        Some((made.hit_objects.len() as u32, walk.draws as u32))
+impl Converted {
+    pub fn notes(&self) -> u32 {
+        self.map.hit_objects.len() as u32
     }
 
-    /// Only the clone that `convert` begins with, and its drop: the time to take off.
-    pub fn clone_only(&self) -> usize {
-        hint::black_box(self.map.clone()).hit_objects.len()
+    pub fn draws(&self) -> u32 {
+        self.draws as u32
+    }
+}
+
+impl Prepared {
+    /// Runs `convert` and nothing else, with no limit on draws; `None` where it stops with 9 or 10.
+    pub fn run(self) -> Option<Converted> {
+        let walk = walk_all(self.map, &self.mods, u64::MAX);
+
+        Some(Converted { map: walk.end.ok()?, draws: walk.draws })
+    }
+
+    /// Clones the map and runs `convert` on the clone. Notes and draws.
+    pub fn convert(&self) -> Option<(u32, u32)> {
+        let made = self.clone().run()?;
+
+        Some((made.notes(), made.draws()))
     }
 }
 

@@ -18,5 +18,5 @@ mod stop;
 mod tests;
 
 pub use chart::read_chart;
-pub use job::{Prepared, convert_only, job, prepare};
+pub use job::{Converted, Prepared, convert_only, job, prepare};
 pub use mania::convert::single::single;

@@ -366,7 +366,7 @@ fn charttext() {
         })
     );
     assert_eq!(convert_only(&song.record()), Some((1, 1)));
-    assert_eq!(prepare(&song.record()).unwrap().clone_only(), 1);
+    assert_eq!(prepare(&song.record()).unwrap().run().unwrap().notes(), 1);
 }
 
 // Meanings that the stand-ins give

@@ -1,5 +1,6 @@
 //! Stand-in for model/mods.rs: mods are a key choice.
 
+#[derive(Clone)]
 pub struct GameMods {
     /// 0 for none, else the column count.
     pub key_choice: u8,
