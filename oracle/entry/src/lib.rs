@@ -82,3 +82,20 @@ pub struct Chart {
     pub draws: u32,
     pub notes: Vec<Note>,
 }
+
+impl Chart {
+    /// The chart as `charttext` prints it.
+    pub fn text(&self) -> String {
+        let notes = self.notes.iter().map(|note| {
+            let Note { column, start, duration, .. } = note;
+            if note.hold {
+                format!("{column} H {start:016X} {duration:016X}\n")
+            } else {
+                format!("{column} C {start:016X}\n")
+            }
+        });
+
+        format!("columns {} notes {} draws {}\n", self.columns, self.notes.len(), self.draws)
+            + &notes.collect::<String>()
+    }
+}

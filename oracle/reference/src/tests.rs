@@ -1,6 +1,7 @@
 //! Document 01's bench table and refusal table, and the job against a walk of single objects.
 
 use entry::{Chart, JobEnd, Kind, Note, Single, SingleEnd, State};
+use jobs::{Object, Song};
 
 use rosu_map::util::Pos;
 
@@ -14,47 +15,8 @@ use crate::{
     util::random::osu::{Random, SEED},
 };
 
-#[derive(Clone, Copy)]
-struct Object {
-    sound: u32,
-    x: f32,
-    y: f32,
-    start: f64,
-    kind: Kind,
-}
-
-/// What a record says, to be written as its bits.
-#[derive(Clone)]
-struct Song {
-    version: u64,
-    key_choice: u64,
-    hp: f32,
-    cs: f32,
-    od: f32,
-    ar: f32,
-    multiplier: f64,
-    breaks: Vec<(f64, f64)>,
-    timing: Vec<(f64, f64)>,
-    difficulty: Vec<(f64, f64)>,
-    effect: Vec<(f64, bool)>,
-    objects: Vec<Object>,
-}
-
 fn plain() -> Song {
-    Song {
-        version: 1,
-        key_choice: 0,
-        hp: 0.0,
-        cs: 0.0,
-        od: 0.0,
-        ar: 0.0,
-        multiplier: 1.0,
-        breaks: vec![],
-        timing: vec![],
-        difficulty: vec![],
-        effect: vec![],
-        objects: vec![],
-    }
+    Song::default()
 }
 
 fn object(start: f64, kind: Kind) -> Object {
@@ -69,88 +31,11 @@ fn hold(duration: f64) -> Kind {
     Kind::Hold { duration }
 }
 
-#[derive(Default)]
-struct Bits(Vec<bool>);
-
-impl Bits {
-    fn put(&mut self, width: usize, value: u64) {
-        self.0.extend((0..width).rev().map(|bit| value >> bit & 1 == 1));
-    }
-
-    fn bytes(&self) -> Vec<u8> {
-        self.0
-            .chunks(8)
-            .map(|bits| {
-                bits.iter().enumerate().fold(0, |byte, (i, bit)| byte | u8::from(*bit) << (7 - i))
-            })
-            .collect()
-    }
-}
-
-impl Song {
-    fn bits(&self) -> Bits {
-        let mut bits = Bits::default();
-        bits.put(4, self.version);
-        bits.put(4, self.key_choice);
-        for setting in [self.hp, self.cs, self.od, self.ar] {
-            bits.put(32, setting.to_bits().into());
-        }
-        bits.put(64, self.multiplier.to_bits());
-        bits.put(8, self.breaks.len() as u64);
-        bits.put(12, self.timing.len() as u64);
-        bits.put(12, self.difficulty.len() as u64);
-        bits.put(12, self.effect.len() as u64);
-        bits.put(12, self.objects.len() as u64);
-        for (a, b) in self.breaks.iter().chain(&self.timing).chain(&self.difficulty) {
-            bits.put(64, a.to_bits());
-            bits.put(64, b.to_bits());
-        }
-        for (time, kiai) in &self.effect {
-            bits.put(64, time.to_bits());
-            bits.put(1, u64::from(*kiai));
-        }
-        for o in &self.objects {
-            let kind = match o.kind {
-                Kind::Circle => 0,
-                Kind::Slider { .. } => 1,
-                Kind::Spinner { .. } => 2,
-                Kind::Hold { .. } => 3,
-            };
-            bits.put(2, kind);
-            bits.put(4, o.sound.into());
-            bits.put(32, o.x.to_bits().into());
-            bits.put(32, o.y.to_bits().into());
-            bits.put(64, o.start.to_bits());
-            match o.kind {
-                Kind::Circle => {}
-                Kind::Slider { repeats, distance, node_sound } => {
-                    bits.put(10, repeats.into());
-                    bits.put(1, u64::from(distance.is_some()));
-                    if let Some(distance) = distance {
-                        bits.put(64, distance.to_bits());
-                    }
-                    bits.put(1, u64::from(node_sound.is_some()));
-                    if let Some(sound) = node_sound {
-                        bits.put(4, sound.into());
-                    }
-                }
-                Kind::Spinner { duration } | Kind::Hold { duration } => {
-                    bits.put(64, duration.to_bits())
-                }
-            }
-        }
-        bits
-    }
-
-    fn record(&self) -> Vec<u8> {
-        self.bits().bytes()
-    }
-
-    fn with(&self, change: impl FnOnce(&mut Self)) -> Self {
-        let mut song = self.clone();
-        change(&mut song);
-        song
-    }
+/// The song with a change.
+fn with(song: &Song, change: impl FnOnce(&mut Song)) -> Song {
+    let mut song = song.clone();
+    change(&mut song);
+    song
 }
 
 /// Runs a job in a buffer of other bytes, and tests what every end says of them.
@@ -170,7 +55,7 @@ fn run(record: &[u8], buffer: usize, allowance: u32) -> (JobEnd, Option<Chart>) 
 }
 
 fn chart(song: &Song) -> Chart {
-    run(&song.record(), 1 << 20, u32::MAX).1.expect("accepted")
+    run(&song.bytes(), 1 << 20, u32::MAX).1.expect("accepted")
 }
 
 fn refusal(record: &[u8], buffer: usize, allowance: u32) -> (u8, u32, u32) {
@@ -181,7 +66,7 @@ fn refusal(record: &[u8], buffer: usize, allowance: u32) -> (u8, u32, u32) {
 }
 
 fn number(song: &Song) -> u8 {
-    refusal(&song.record(), 1 << 20, 1_000_000).0
+    refusal(&song.bytes(), 1 << 20, 1_000_000).0
 }
 
 const STATE: State = State { x: 0, y: 842_502_087, z: 3_579_807_591, w: 273_326_509 };
@@ -350,7 +235,7 @@ fn reverse() {
 #[test]
 fn charttext() {
     let song = Song { key_choice: 9, objects: vec![object(1000.0, hold(300.0))], ..plain() };
-    let (end, chart) = run(&song.record(), 65_536, 1_000_000);
+    let (end, chart) = run(&song.bytes(), 65_536, 1_000_000);
     assert_eq!(end, JobEnd::Chart { length: 25 });
     assert_eq!(
         chart,
@@ -365,8 +250,8 @@ fn charttext() {
             }],
         })
     );
-    assert_eq!(convert_only(&song.record()), Some((1, 1)));
-    assert_eq!(prepare(&song.record()).unwrap().run().unwrap().notes(), 1);
+    assert_eq!(convert_only(&song.bytes()), Some((1, 1)));
+    assert_eq!(prepare(&song.bytes()).unwrap().run().unwrap().notes(), 1);
 }
 
 // Meanings that the stand-ins give
@@ -407,7 +292,7 @@ fn columns_found_back() {
 
 #[test]
 fn refusal_1() {
-    let header = plain().record();
+    let header = plain().bytes();
     assert_eq!(header.len(), 32);
     assert_eq!(refusal(&header, 8, 0), (0, 0, 0));
     for length in 0..32 {
@@ -432,7 +317,7 @@ fn refusals_2_to_4() {
     assert_eq!(number(&Song { multiplier: 0.4_f64.next_down(), ..plain() }), 4);
     assert_eq!(number(&Song { multiplier: 3.6_f64.next_up(), ..plain() }), 4);
     // A cut field comes after a bad one.
-    let cut = Song { hp: 10.5, ..plain() }.record();
+    let cut = Song { hp: 10.5, ..plain() }.bytes();
     assert_eq!(refusal(&cut[..5], 8, 0).0, 4);
     assert_eq!(refusal(&cut[..4], 8, 0).0, 1);
 }
@@ -450,7 +335,7 @@ fn refusal_5() {
     assert_eq!(number(&Song { effect: vec![(16_777_215.5, true)], ..plain() }), 5);
     assert_eq!(number(&Song { breaks: vec![(1.0, 0.0)], ..plain() }), 5);
     assert_eq!(number(&Song { breaks: vec![(1.0, 1.0), (0.0, 0.5)], ..plain() }), 0);
-    let cut = Song { breaks: vec![(f64::NAN, 0.0)], ..plain() }.record();
+    let cut = Song { breaks: vec![(f64::NAN, 0.0)], ..plain() }.bytes();
     assert_eq!(refusal(&cut[..40], 8, 0).0, 5);
     assert_eq!(refusal(&cut[..39], 8, 0).0, 1);
 }
@@ -460,10 +345,10 @@ fn refusal_6() {
     let song = Song { objects: vec![object(5.0, hold(1.0)), object(4.0, hold(1.0))], ..plain() };
     assert_eq!(number(&song), 6);
     // The order of starts comes before the duration's wholeness.
-    let record = song.record();
+    let record = song.bytes();
     assert_eq!(refusal(&record[..record.len() - 8], 8, 0).0, 6);
     let one = |change: fn(&mut Object)| {
-        number(&plain().with(|song| {
+        number(&with(&plain(), |song| {
             song.objects.push(object(0.0, slider(0, 1.0)));
             change(&mut song.objects[0]);
         }))
@@ -481,11 +366,11 @@ fn refusal_6() {
 
 #[test]
 fn refusal_7() {
-    let mut more = plain().record();
+    let mut more = plain().bytes();
     more.push(0);
     assert_eq!(refusal(&more, 8, 0).0, 7);
     let song = Song { effect: vec![(0.0, true)], ..plain() };
-    let mut record = song.record();
+    let mut record = song.bytes();
     assert_eq!(refusal(&record, 8, 0).0, 0);
     *record.last_mut().unwrap() |= 1;
     assert_eq!(refusal(&record, 7, 0).0, 7);
@@ -500,11 +385,11 @@ fn refusal_8() {
         objects: vec![object(0.0, hold(300.0)), late],
         ..plain()
     };
-    assert_eq!(refusal(&song.record(), 1000, 9), (8, 1, 1));
+    assert_eq!(refusal(&song.bytes(), 1000, 9), (8, 1, 1));
     // An object before it can still refuse first.
-    assert_eq!(refusal(&song.record(), 24, 9), (11, 0, 1));
-    assert_eq!(refusal(&song.record(), 1000, 0), (12, 0, 0));
-    assert_eq!(convert_only(&song.record()), None);
+    assert_eq!(refusal(&song.bytes(), 24, 9), (11, 0, 1));
+    assert_eq!(refusal(&song.bytes(), 1000, 0), (12, 0, 0));
+    assert_eq!(convert_only(&song.bytes()), None);
 
     let single = Single { beat_length: 60_000.0, velocity: 0.1, ..ask(slider(0, 131_072.0)) };
     assert_eq!(single_number(&single), 8);
@@ -552,7 +437,7 @@ fn refusal_10() {
 #[test]
 fn refusal_11() {
     let song = Song { objects: vec![object(0.0, hold(300.0)); 3], ..plain() };
-    let record = song.record();
+    let record = song.bytes();
     assert_eq!(refusal(&record, 7, 9), (11, 0, 0));
     assert_eq!(refusal(&record, 8, 0), (12, 0, 0));
     assert_eq!(refusal(&record, 8, 9), (11, 0, 1));
@@ -571,8 +456,8 @@ fn refusal_11() {
 #[test]
 fn refusal_12() {
     let song = Song { objects: vec![object(0.0, hold(300.0))], ..plain() };
-    assert_eq!(refusal(&song.record(), 1000, 0), (12, 0, 0));
-    assert_eq!(refusal(&song.record(), 1000, 1), (0, 0, 0));
+    assert_eq!(refusal(&song.bytes(), 1000, 0), (12, 0, 0));
+    assert_eq!(refusal(&song.bytes(), 1000, 1), (0, 0, 0));
     assert_eq!(single_number(&Single { allowance: 0, ..ask(hold(300.0)) }), 12);
 }
 
@@ -785,7 +670,7 @@ fn some_song(dice: &mut Dice) -> Song {
             .collect::<Vec<f64>>()
     };
     let mut song = Song {
-        key_choice: dice.below(10),
+        key_choice: dice.below(10) as u8,
         hp: dice.to(10.0) as f32,
         cs: dice.of(&[0.0, 4.0, 4.5, 5.5, 7.0]),
         od: dice.to(10.0) as f32,
@@ -952,7 +837,7 @@ fn job_is_a_walk_of_singles() {
     let mut dice = Dice(1);
     for _ in 0..4000 {
         let song = some_song(&mut dice);
-        let record = song.record();
+        let record = song.bytes();
         let (end, whole) = run(&record, 1 << 15, u32::MAX);
         let seed = SEED.get() as u32;
         let walked = by_singles(&song, columns_of(&song), seed);
@@ -993,14 +878,14 @@ fn job_is_a_walk_of_singles() {
 
 /// Notes and draws of the first objects, with the facts of the whole song.
 fn first_objects(song: &Song, count: usize) -> (usize, u32) {
-    let (map, mods) = read(&song.record()).unwrap();
+    let (map, mods) = read(&song.bytes()).unwrap();
     let walk = walk(&map, &mods, count, u64::MAX);
     (walk.end.unwrap().hit_objects.len(), walk.draws as u32)
 }
 
 fn columns_of(song: &Song) -> u32 {
     if song.key_choice > 0 {
-        return song.key_choice as u32;
+        return song.key_choice.into();
     }
     let long = song
         .objects
@@ -1111,7 +996,7 @@ fn singles_keep_their_word() {
 fn broken_records_end() {
     let mut dice = Dice(3);
     for _ in 0..20_000 {
-        let mut record = some_song(&mut dice).record();
+        let mut record = some_song(&mut dice).bytes();
         for _ in 0..dice.below(4) {
             let at = dice.below(record.len() as u64) as usize;
             record[at] ^= 1 << dice.below(8);

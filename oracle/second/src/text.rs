@@ -1,7 +1,5 @@
 //! The text that `charttext` prints for a job on its standard input.
 
-use std::fmt::Write;
-
 use entry::JobEnd;
 
 use crate::{job, read_chart};
@@ -27,27 +25,5 @@ pub fn charttext(input: &[u8]) -> String {
         }
     };
 
-    let Some(chart) = read_chart(&chart[..length]) else {
-        return "refused 14\n".into();
-    };
-    let mut text = format!(
-        "columns {} notes {} draws {}\n",
-        chart.columns,
-        chart.notes.len(),
-        chart.draws
-    );
-
-    for note in chart.notes {
-        let _ = if note.hold {
-            writeln!(
-                text,
-                "{} H {:016X} {:016X}",
-                note.column, note.start, note.duration
-            )
-        } else {
-            writeln!(text, "{} C {:016X}", note.column, note.start)
-        };
-    }
-
-    text
+    read_chart(&chart[..length]).map_or_else(|| "refused 14\n".into(), |chart| chart.text())
 }

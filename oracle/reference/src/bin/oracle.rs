@@ -16,25 +16,7 @@ fn text(record: &[u8], allowance: u32, buffer: usize) -> String {
             format!("refused {number} object {object} draws {draws}\n")
         }
         JobEnd::Chart { length } => {
-            let chart =
-                reference::read_chart(&chart[..length]).expect("a written chart reads back");
-            let mut text = format!(
-                "columns {} notes {} draws {}\n",
-                chart.columns,
-                chart.notes.len(),
-                chart.draws
-            );
-
-            for note in chart.notes {
-                text += &format!("{} ", note.column);
-                text += &if note.hold {
-                    format!("H {:016X} {:016X}\n", note.start, note.duration)
-                } else {
-                    format!("C {:016X}\n", note.start)
-                };
-            }
-
-            text
+            reference::read_chart(&chart[..length]).expect("a written chart reads back").text()
         }
     }
 }
