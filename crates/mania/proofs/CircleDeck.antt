@@ -6,11 +6,9 @@ use lib.Dec.{eqb, ltb}
 use lib.Bits.{or-lt}
 use lib.Pow.{pow-pos, pow-lt}
 use borrow.Author.Tests.{ltb-true}
-use Rattle.rules.specs.Rule.{Rule, give, refuse, draw, drawUntil}
 use Rattle.random.specs.Generator.{unit}
 use Rattle.random.specs.Play.{found, on}
 use Rattle.random.specs.declared.Draws.{Draws}
-use Rattle.random.specs.Laws.Gives.{Gives}
 use Rattle.random.specs.Laws.On.{gives}
 use Rattle.mania.specs.declared.Note.{Note}
 use Rattle.mania.specs.declared.HitObjectPatternGenerator.{HitObjectPatternGenerator}
@@ -21,17 +19,7 @@ use Rattle.mania.specs.Pattern.{Pattern, free, empty, put, add}
 use Rattle.mania.specs.PatternGenerator.{randomStart}
 use Rattle.mania.specs.HitObject
 use Rattle.mania.specs.Demand.{Each}
-use Rattle.mania.proofs.Makes.{Makes, giving, refusing, seq, by, each-snoc}
-
--- of what a rule gives, nothing
-any-gives : {W R A : Type 0} (m : Rule W R A) → Gives (λ a. Unit {0}) m
-any-gives (give a) = tt
-any-gives (refuse r) = tt
-any-gives (draw r k) = λ v l. any-gives (k v)
-any-gives (drawUntil r p k) = λ v l e. any-gives (k v)
-
-pub any : {W R A : Type 0} {m : Rule W R A} → Makes (λ a. Unit {0}) m
-any {m = m} = record { made = any-gives m }
+use Rattle.mania.proofs.Makes.{Makes, any, giving, refusing, seq, by, each-snoc}
 
 pub record Deck (columns : ℕ) (p : Pattern Note) : Type 0 where
   pub last : p .last < columns

@@ -41,11 +41,11 @@ use Rattle.mania.specs.Convert.{Walk, AtObject, at, beginning, meets, fa
 use Rattle.mania.specs.Refusals.{Late, LateAt, Blocked, Below, KindAt, IsCircle, NoCircle, InWalk}
 use Rattle.mania.proofs.Masks.{bit, taken-bit}
 use Rattle.mania.proofs.Makes as Makes
-use Rattle.mania.proofs.Makes.{Makes}
+use Rattle.mania.proofs.Makes.{Makes, any}
 use Rattle.mania.proofs.Meets.{Ends, Meets, giving, refusing, seq, by, less, labelled, refused-meets}
 use Rattle.mania.proofs.Frees.{frees, some-free, room, next-bits}
 use Rattle.mania.proofs.Searching.{never}
-use Rattle.mania.proofs.CircleDeck.{any, circle-makes}
+use Rattle.mania.proofs.CircleDeck.{circle-makes}
 use Rattle.mania.proofs.SliderDeck.{slider-makes}
 use Rattle.mania.proofs.CircleEnds.{start-of, circle-ends}
 use Rattle.mania.proofs.SliderEnds.{slider-ends, end-ends}

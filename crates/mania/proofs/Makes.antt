@@ -32,6 +32,16 @@ pub by : {W R A : Type 0} {P : A → Type 0} (b : Bool) (m n : Rule W R A) → (
 by true m n h g = h refl
 by false m n h g = g refl
 
+-- nothing said of it
+any-gives : {W R A : Type 0} (m : Rule W R A) → Gives (λ a. Unit {0}) m
+any-gives (give a) = tt
+any-gives (refuse r) = tt
+any-gives (draw r k) = λ v l. any-gives (k v)
+any-gives (drawUntil r p k) = λ v l e. any-gives (k v)
+
+pub any : {W R A : Type 0} {m : Rule W R A} → Makes (λ a. Unit {0}) m
+any {m = m} = record { made = any-gives m }
+
 -- less said of it
 less-gives : {W R A : Type 0} (P Q : A → Type 0) → ((a : A) → P a → Q a) → (m : Rule W R A) → Gives P m → Gives Q m
 less-gives P Q f (give a) h = f a h

@@ -18,8 +18,7 @@ use Rattle.mania.specs.Pattern.{Pattern, empty, put}
 use Rattle.mania.specs.PatternGenerator.{randomStart}
 use Rattle.mania.specs.PathObject
 use Rattle.mania.specs.Demand.{Each}
-use Rattle.mania.proofs.Makes.{Makes, giving, refusing, seq, by, added, each-snoc}
-use Rattle.mania.proofs.CircleDeck.{any}
+use Rattle.mania.proofs.Makes.{Makes, any, giving, refusing, seq, by, added, each-snoc}
 
 record Deck (columns : ℕ) (p : Pattern SliderNote) : Type 0 where
   last : p .last < columns

@@ -23,8 +23,9 @@ use Rattle.mania.specs.HitObject as HitObject
 use Rattle.mania.specs.PathObject as PathObject
 use Rattle.mania.specs.EndTimeObject as EndTimeObject
 use Rattle.mania.specs.Object.{object, byKind}
-use Rattle.mania.proofs.Makes.{Makes, giving, seq, less}
+use Rattle.mania.proofs.Makes.{Makes, any, giving, seq, less}
 use Rattle.mania.proofs.CircleDeck.{circle-makes}
+use Rattle.mania.proofs.SliderDeck.{slider-makes}
 use Rattle.pattern.specs.Answers.{objectEnd, noted, Generates}
 use Rattle.pattern.specs.declared.ObjectEnd.{ObjectEnd}
 use Rattle.pattern.specs.declared.ObjectEnd.the-variants as E
@@ -33,7 +34,10 @@ use Rattle.circle_notes.specs.Answers.{circleAt}
 use Rattle.slider_notes.specs.Words.{noteOfWord}
 use Rattle.object.specs.Notes.{noteBy, noteAt}
 use Rattle.object.specs.Contract.{OnDeck, Ends}
-use Rattle.object.proofs.SliderDeck.{MadeOn, any, slider-makes}
+
+-- what the next object meets
+abbrev MadeOn : ℕ → Made → Type 0
+MadeOn columns m = (m .last < columns) × (m .mask < 2 ^ columns)
 
 circle-on : (g : HitObjectPatternGenerator) → 0 < g .columns → Makes (MadeOn (g .columns)) (HitObject.generate g)
 circle-on g h = less (circle-makes g h) (λ m k. (k .0, k .1))

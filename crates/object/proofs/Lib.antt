@@ -1,3 +1,2 @@
-pub mod SliderDeck
 pub mod Decks
 pub mod Ready

@@ -100,6 +100,19 @@ pub fn clamp(low: f64, high: f64, x: f64) -> f64
     }
 }
 
+// The same of 32 bits.
+pub fn clamp_f32(low: f32, high: f32, x: f32) -> f32
+    ensures { λ r. ⌜ r ≡ clamped low high x ⌝ }
+{
+    if x < low {
+        low
+    } else if high < x {
+        high
+    } else {
+        x
+    }
+}
+
 // ---- bits
 
 // Whether a sound has one of the named bits.

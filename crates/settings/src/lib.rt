@@ -2,7 +2,6 @@
 ghost use mathlib.Core.Path.{_≡_};
 ghost use lib.Dec.{ltb};
 ghost use Rattle.rules.specs.Rule.{if_then_else_};
-ghost use Rattle.mania.specs.Steps.{least, clamped};
 ghost use Rattle.mania.specs.Convert as Convert;
 ghost use Rattle.mania.specs.Convert.{columnsByOd, columnsByShare};
 ghost use Rattle.mania.specs.PatternGenerator.{orTenThousand};
@@ -84,25 +83,6 @@ pub fn columns_of(key: u8, s: Settings, long: u32, objects: u32) -> u8
 
 // ---- the conversion difficulty
 
-// x, brought to the nearest end of a range where it is out of it.
-fn clamp(low: f32, high: f32, x: f32) -> f32
-    ensures { λ r. ⌜ r ≡ clamped low high x ⌝ }
-{
-    if x < low {
-        low
-    } else if high < x {
-        high
-    } else {
-        x
-    }
-}
-
-fn least_of(x: f64, y: f64) -> f64
-    ensures { λ r. ⌜ r ≡ least x y ⌝ }
-{
-    if y < x { y } else { x }
-}
-
 // 10,000 in place of 0.
 fn or_ten_thousand(n: i32) -> i32
     ensures { λ r. ⌜ r ≡ orTenThousand n ⌝ }
@@ -122,7 +102,7 @@ pub fn conversion_difficulty(s: Settings, breaks: f64, first: f64, last: f64, ob
     ensures { λ r. ⌜ r ≡ difficultyOf s breaks first last objects ⌝ }
 {
     let drain = drain_time(breaks, first, last);
-    let life = std::num::f32_to_f64_with_nan(s.hp + clamp(4.0, 7.0, s.ar)) / 1.5;
+    let life = std::num::f32_to_f64_with_nan(s.hp + pattern::clamp_f32(4.0, 7.0, s.ar)) / 1.5;
     let pace = (objects as f64) / (drain as f64) * 9.0;
-    least_of((life + pace) / 38.0 * 5.0 / 1.15, 12.0)
+    pattern::min((life + pace) / 38.0 * 5.0 / 1.15, 12.0)
 }

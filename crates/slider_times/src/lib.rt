@@ -3,7 +3,6 @@ ghost use mathlib.Core.Path.{_≡_};
 ghost use mathlib.Core.Bool as Bool;
 ghost use Rattle.rules.specs.Rule.{if_then_else_};
 ghost use Prim.Native.Nat.{_+_, _-_, _/_, _≤_, _<_};
-ghost use Rattle.mania.specs.Steps.{clamped};
 ghost use Rattle.mania.specs.PatternType.{lowProbability};
 ghost use Rattle.mania.specs.PathObject as Path;
 ghost use Rattle.slider_times.specs.Chances.{chances, capsOf};
@@ -139,26 +138,13 @@ pub fn can_generate_two_notes(g: PathObjectPatternGenerator) -> bool
 
 // ---- the times
 
-// x, brought to the nearest end of a range where it is out of it.
-fn clamp(low: f32, high: f32, x: f32) -> f32
-    ensures { λ r. ⌜ r ≡ clamped low high x ⌝ }
-{
-    if x < low {
-        low
-    } else if high < x {
-        high
-    } else {
-        x
-    }
-}
-
 // `get_precision_adjusted_beat_len`
 pub fn adjusted_beat(velocity: f64, beat: f64) -> f64
     ensures { λ r. ⌜ r ≡ Path.adjustedBeat velocity beat ⌝ }
 {
     let as_beat = -100.0 / velocity;
     if as_beat < 0.0 {
-        let x = clamp(10.0, 10000.0, floats::narrow(-as_beat));
+        let x = pattern::clamp_f32(10.0, 10000.0, floats::narrow(-as_beat));
         beat * (std::num::f32_to_f64_with_nan(x) / 100.0)
     } else {
         beat * 1.0

@@ -1,7 +1,7 @@
--- `slider_times::clamp` meets its contract. Assumes nothing.
+-- `pattern::clamp_f32` meets its contract. Assumes nothing.
 use Rattle.mania.specs.Steps.{clamped}
-use Rattle.slider_times.proofs.clamp.Statement.{statement}
-use Rattle.slider_times.proofs.clamp.Tie as tie
+use Rattle.pattern.proofs.clamp_f32.Statement.{statement}
+use Rattle.pattern.proofs.clamp_f32.Tie as tie
 
 returns : tie.Need-returns
 unfolding clamped
@@ -15,5 +15,5 @@ returns-3 : tie.Need-returns-3
 unfolding clamped
 returns-3 c = rw (c .before .if1 .left, c .if2 .left)
 
-pub clamp-spec : {M : Type 1} → statement M
-clamp-spec = tie.close (tie.spec returns returns-2 returns-3)
+pub clamp-f32-spec : {M : Type 1} → statement M
+clamp-f32-spec = tie.close (tie.spec returns returns-2 returns-3)
