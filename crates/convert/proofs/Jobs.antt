@@ -2,11 +2,10 @@
 use mathlib.Core.Path.{_≡_, refl, sym, ap, ap₂, _∙_, subst}
 use Prim.Native.Nat.{ℕ, _+_, _-_, _*_, _≤_, _<_}
 use native.Mathlib.Nat.{zero-add, sub-self}
-use mathlib.Core.List.{List, [], _++_, map}
+use mathlib.Core.List.{List, [], map}
 use lib.ListN.{length, drop, length-map}
 use borrow.Author.Tests.{le-ltb, lt-ltb}
 use Rattle.rules.specs.Rule.{ended}
-use Rattle.rules.specs.Rule as Rule
 use Rattle.rules.specs.Refusal.{number}
 use Rattle.random.specs.Generator.{seeded}
 use Rattle.random.specs.Play.{found, refused, play}
@@ -28,7 +27,7 @@ use Rattle.mania.specs.Convert.{seed, columnsOf, convert, walk}
 use Rattle.mania.specs.Job.{Job, ending, refusing, under}
 use Rattle.mania.specs.Job as OfSong
 use Rattle.mania.specs.Walked.{Stop, stop, spentAt, refusedAt, onWalk}
-use Rattle.mania.specs.Laws.Walks.{job-made, job-stopped}
+use Rattle.mania.specs.Laws.Walks.{job-made, job-stopped, splice-start}
 use Rattle.job.specs.Job.{jobOf, job}
 use Rattle.job.proofs.Read.{in-order, fits-all}
 use Rattle.convert.specs.declared.JobEnd.the-variants as J
@@ -104,10 +103,6 @@ module _ (bytes buffer : List ℕ) (a : ℕ) (parsed : parse bytes ≡ accepted 
         ap length bytes-are ∙ length-encode (columnsOf S) n (Order.arranged [] ps)
         ∙ ap (λ (k : ℕ). 8 + 17 * k) (length-arranged [] ps ∙ zero-add (length ps) ∙ counted)
 
-    at-front : (v : List ℕ) → splice buffer 0 v ≡ written v buffer
-    unfolding splice written
-    at-front v = ap (λ (k : ℕ). v ++ drop k buffer) (zero-add (length v))
-
     pub made-job : (columns size : ℕ) (last : List ℕ) → columns ≡ columnsOf S → size ≡ 8 + 17 * notes
         → last ≡ splice exit 0 (Bytes.encode columns n (Order.arranged [] (notesOf notes (drop 8 exit)))) → jobEnd last (J.Chart size) ≡ job bytes buffer a
     unfolding ending body Bytes.body
@@ -116,7 +111,7 @@ module _ (bytes buffer : List ℕ) (a : ℕ) (parsed : parse bytes ≡ accepted 
         let whole : splice exit 0 (Bytes.encode columns n (Order.arranged [] (notesOf notes (drop 8 exit)))) ≡ written (encode (columnsOf S) n (arranged [] ns)) buffer =
         ap₂ (λ (k q : ℕ). splice exit 0 (Bytes.encode k n (Order.arranged [] (notesOf q (drop 8 exit))))) c (sym counted)
         ∙ finished buffer exit (columnsOf S) n ps (w .written) room (fits-all bytes buffer S parsed a n (w .nss) ends)
-        ∙ at-front (Bytes.encode (columnsOf S) n (Order.arranged [] ps))
+        ∙ splice-start buffer (Bytes.encode (columnsOf S) n (Order.arranged [] ps))
         ∙ ap (λ (v : List ℕ). written v buffer) (sym bytes-are) in
         ap₂ {C = Job} (λ (k : ℕ) (v : List ℕ). record { answer = OfSong.accepted k; chart = v }) (z ∙ sym long) (f ∙ whole)
         ∙ sym (job-is ∙ made)

@@ -1,7 +1,6 @@
 -- The single-object entry, from what its object's generator and the writing of its notes promise. Assumes nothing.
 use mathlib.Core.Path.{_≡_, sym, ap, ap₂, _∙_, subst}
 use Prim.Native.Nat.{ℕ, _-_, _*_, _≤_}
-use native.Mathlib.Nat.{zero-add}
 use mathlib.Core.Bool.{Bool, true, false}
 use mathlib.Core.List.{List, map}
 use lib.Dec.{ltb}
@@ -13,7 +12,6 @@ use Rattle.random.specs.Laws.Allowance.{found-run}
 use Rattle.random.specs.declared.Random.{Random}
 use Rattle.random.specs.declared.Draws.{Draws}
 use Rattle.model.specs.declared.Object.{Object}
-use Rattle.chart.specs.Bytes.{splice}
 use Rattle.mania.specs.declared.Facts.{Facts}
 use Rattle.mania.specs.declared.PrevValues.{PrevValues}
 use Rattle.mania.specs.declared.Stair.{Stair}
@@ -52,11 +50,6 @@ pub left-in : (f : Facts) (v : PrevValues) (columns : ℕ) (o : Object) (r : Ran
     → found (madeBy o p stair words) e ≡ on (object f v columns o) (record { random = r; left = a }) → e .left ≤ a
 left-in f v columns o r a words p stair e says =
     found-run (λ p. spentNumber) number (object f v columns o) (record { random = r; left = a }) (madeBy o p stair words) e (sym says) .1
-
--- bytes put at the start
-pub at-start : (s v : List ℕ) → splice s 0 v ≡ written v s
-unfolding splice written
-at-start s v = rw zero-add
 
 module _ (f : Facts) (v : PrevValues) (columns : ℕ) (o : Object) (r : Random) (a : ℕ) (entry exit words : List ℕ) (p : Pattern) (stair : Stair) (e : Draws)
     (passes : entryRefusal f v columns o ≡ 0) (size : p .count ≤ length words)

@@ -1,7 +1,8 @@
--- The walk, one object at a time: for a loop over the objects that keeps the notes made so far; and a job, from how its walk ended.
--- Assumes nothing.
+-- The walk, one object at a time: for a loop over the objects that keeps the notes made so far; a job, from how its walk ended; and bytes put at a
+-- buffer's start. Assumes nothing.
 use mathlib.Core.Path.{_≡_, refl, sym, ap, _∙_}
 use Prim.Native.Nat.{ℕ, zero, suc, _+_, _-_, _*_}
+use native.Mathlib.Nat.{zero-add}
 use mathlib.Core.Bool.{Bool, true, false}
 use mathlib.Core.List.{List, [], _∷_, _++_, append-assoc, append-nil}
 use lib.Dec.{ltb}
@@ -16,6 +17,7 @@ use Rattle.random.specs.Laws.Play as Play
 use Rattle.random.specs.Laws.Play.{follow, play-bind}
 use Rattle.random.specs.Laws.On.{found-bind, refused-bind}
 use Rattle.random.specs.Laws.Allowance.{found-run, refused-run}
+use Rattle.chart.specs.Bytes.{splice}
 use Rattle.mania.specs.declared.Note.{Note}
 use Rattle.model.specs.declared.Object.{Object}
 use Rattle.model.specs.Song.{Song}
@@ -23,6 +25,7 @@ use Rattle.mania.specs.declared.Facts.{Facts}
 use Rattle.mania.specs.Made.{Made}
 use Rattle.mania.specs.LimitedQueue.{Density}
 use Rattle.mania.specs.Object.{object}
+use Rattle.mania.specs.Chart.{written}
 use Rattle.mania.specs.Convert.{Walk, AtObject, at, seed, columnsOf, meets, factsAt, afterObject, objectIn, walk, convert}
 use Rattle.mania.specs.Walked.{Stop, stop, spentAt, refusedAt, onWalk}
 use Rattle.mania.specs.Job.{Job, ending, refusing, under, job}
@@ -122,3 +125,7 @@ module _ (s : Song) (buffer : List ℕ) (a : ℕ) where
   unfolding job under ending
   job-stopped x e h =
       refused-run spentAt refusedAt (convert s (length buffer)) from-seed (ending (columnsOf s) buffer) (λ y n. refusing (y .number) (y .object) n buffer) (λ i n. refl) (λ r n. refl) x e h .0
+
+pub splice-start : (s v : List ℕ) → splice s 0 v ≡ written v s
+unfolding splice written
+splice-start s v = rw zero-add

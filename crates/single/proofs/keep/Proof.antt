@@ -4,8 +4,8 @@ use Prim.Native.Nat.{_*_}
 use native.Mathlib.Omega.{arith}
 use lib.ListN.{length}
 use borrow.Author.Tests.{lt-ltb, le-ltb}
+use Rattle.mania.specs.Laws.Walks.{splice-start}
 use Rattle.single.specs.Ends.{full, kept}
-use Rattle.single.proofs.Kept.{at-start}
 use borrow.Author.Needs.{needs}
 use Rattle.single.proofs.keep.Statement.{statement}
 use Rattle.single.proofs.keep.Tie as tie
@@ -34,7 +34,7 @@ returns-2 : tie.Need-returns-2
 returns-2 c =
     let k = c .before .before .before .before in
     let a = k .before .before .before .before .before .args in
-    kept (le-ltb (length (a .notes .now)) (17 * a .p .count) (omega arith)) (k .put-notes .ensures ∙ at-start (a .notes .now) _) refl
+    kept (le-ltb (length (a .notes .now)) (17 * a .p .count) (omega arith)) (k .put-notes .ensures ∙ splice-start (a .notes .now) _) refl
 
 pub keep-spec : {M : Type 1} → statement M
 keep-spec =
