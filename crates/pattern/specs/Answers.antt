@@ -6,6 +6,7 @@ use mathlib.Core.List.{List, map}
 use lib.ListN.{take}
 use Rattle.random.specs.Play.{Answer, found, refused}
 use Rattle.mania.specs.declared.Note.{Note}
+use Rattle.mania.specs.declared.Stair.{Stair}
 use Rattle.mania.specs.Made.{Made}
 use Rattle.mania.specs.Pattern.{Pattern}
 use Rattle.pattern.specs.declared.Number.{Number}
@@ -34,8 +35,11 @@ AtMost n (P.Notes p d) = p .count ≤ n
 AtMost n (P.Refused x d) = Unit {0}
 
 -- an object's notes in walk order, and what the next object meets
+abbrev pub madeBy : (ℕ → Note) → List ℕ → Lent.Pattern → Stair → Made
+madeBy read words p stair = record { notes = map read (take (p .count) words); mask = p .mask; last = p .last; stair = stair }
+
 abbrev pub objectEnd : (ℕ → Note) → List ℕ → ObjectEnd → Answer ℕ Made
-objectEnd read words (E.Made p s d) = found (record { notes = map read (take (p .count) words); mask = p .mask; last = p .last; stair = s }) d
+objectEnd read words (E.Made p s d) = found (madeBy read words p s) d
 objectEnd read words (E.Refused x d) = refused x d
 
 -- how many notes an object has

@@ -2,10 +2,9 @@
 use mathlib.Core.Path.{_≡_, sym, ap, ap₂, _∙_, subst}
 use Prim.Native.Nat.{ℕ, _-_, _*_, _≤_}
 use mathlib.Core.Bool.{Bool, true, false}
-use mathlib.Core.List.{List, map}
+use mathlib.Core.List.{List}
 use lib.Dec.{ltb}
-use lib.ListN.{length, take, length-map}
-use lib.Seq.{length-take-le}
+use lib.ListN.{length}
 use Rattle.rules.specs.Refusal.{number, spentNumber}
 use Rattle.random.specs.Play.{found, on}
 use Rattle.random.specs.Laws.Allowance.{found-run}
@@ -16,12 +15,13 @@ use Rattle.mania.specs.declared.Facts.{Facts}
 use Rattle.mania.specs.declared.PrevValues.{PrevValues}
 use Rattle.mania.specs.declared.Stair.{Stair}
 use Rattle.mania.specs.Chart.{body, written}
-use Rattle.mania.specs.Made.{Made}
 use Rattle.mania.specs.Object.{object}
 use Rattle.mania.specs.Single.{Single, made, refusing, entryRefusal, singleObject}
 use Rattle.mania.specs.Laws.Singles.{single-full, single-made}
 use Rattle.entry.specs.Laws.{checked}
 use Rattle.pattern.specs.declared.Pattern.{Pattern}
+use Rattle.pattern.specs.Answers.{madeBy}
+use Rattle.pattern.specs.Laws.Words.{note-count}
 use Rattle.object.specs.Notes.{noteAt}
 use Rattle.object.specs.Contract.{Asks}
 use Rattle.single.specs.declared.SingleEnd.{SingleEnd}
@@ -41,29 +41,22 @@ asks f v columns o m n e w s =
       spare = s;
     }
 
--- what an object made, from the words that its generator left
-abbrev pub madeBy : Object → Pattern → Stair → List ℕ → Made
-madeBy o p stair words = record { notes = map (noteAt o) (take (p .count) words); mask = p .mask; last = p .last; stair = stair }
-
 -- a rule leaves no more draws than it was lent
 pub left-in : (f : Facts) (v : PrevValues) (columns : ℕ) (o : Object) (r : Random) (a : ℕ) (words : List ℕ) (p : Pattern) (stair : Stair) (e : Draws)
-    → found (madeBy o p stair words) e ≡ on (object f v columns o) (record { random = r; left = a }) → e .left ≤ a
+    → found (madeBy (noteAt o) words p stair) e ≡ on (object f v columns o) (record { random = r; left = a }) → e .left ≤ a
 left-in f v columns o r a words p stair e says =
-    found-run (λ p. spentNumber) number (object f v columns o) (record { random = r; left = a }) (madeBy o p stair words) e (sym says) .1
+    found-run (λ p. spentNumber) number (object f v columns o) (record { random = r; left = a }) (madeBy (noteAt o) words p stair) e (sym says) .1
 
 module _ (f : Facts) (v : PrevValues) (columns : ℕ) (o : Object) (r : Random) (a : ℕ) (entry exit words : List ℕ) (p : Pattern) (stair : Stair) (e : Draws)
     (passes : entryRefusal f v columns o ≡ 0) (size : p .count ≤ length words)
-    (says : found (madeBy o p stair words) e ≡ on (object f v columns o) (record { random = r; left = a })) where
-  counted : length (madeBy o p stair words .notes) ≡ p .count
-  counted = length-map (take (p .count) words) (noteAt o) ∙ length-take-le (p .count) words size
-
-  longer : (b : Bool) → ltb (length entry) (17 * p .count) ≡ b → ltb (length entry) (17 * length (madeBy o p stair words .notes)) ≡ b
-  longer b l = subst (λ (n : ℕ). ltb (length entry) (17 * n) ≡ b) (sym counted) l
+    (says : found (madeBy (noteAt o) words p stair) e ≡ on (object f v columns o) (record { random = r; left = a })) where
+  longer : (b : Bool) → ltb (length entry) (17 * p .count) ≡ b → ltb (length entry) (17 * length (madeBy (noteAt o) words p stair .notes)) ≡ b
+  longer b l = subst (λ (n : ℕ). ltb (length entry) (17 * n) ≡ b) (sym (note-count (noteAt o) words (p .count) size)) l
 
   pub ended-single : (x : SingleEnd) → Keeps entry exit words o p stair r a e x → singleEnd exit x ≡ singleObject f v columns o r a entry
   unfolding refusing
-  ended-single x (full l same k) = ap₂ singleEnd same k ∙ sym (single-full f v columns o r a entry passes (madeBy o p stair words) e (sym says) (longer true l))
+  ended-single x (full l same k) = ap₂ singleEnd same k ∙ sym (single-full f v columns o r a entry passes (madeBy (noteAt o) words p stair) e (sym says) (longer true l))
   ended-single x (kept l same k) =
       ap₂ singleEnd same k
-      ∙ ap {B = Single} (λ (n : ℕ). record { answer = made n (p .mask) (p .last) stair (e .random) (a - e .left); notes = written (body (madeBy o p stair words .notes)) entry }) (sym counted)
-      ∙ sym (single-made f v columns o r a entry passes (madeBy o p stair words) e (sym says) (longer false l))
+      ∙ ap {B = Single} (λ (n : ℕ). record { answer = made n (p .mask) (p .last) stair (e .random) (a - e .left); notes = written (body (madeBy (noteAt o) words p stair .notes)) entry }) (sym (note-count (noteAt o) words (p .count) size))
+      ∙ sym (single-made f v columns o r a entry passes (madeBy (noteAt o) words p stair) e (sym says) (longer false l))

@@ -3,10 +3,9 @@ use mathlib.Core.Path.{_≡_, sym, ap, ap₂, _∙_, subst}
 use Prim.Native.Nat.{ℕ, _+_, _^_, _≤_, _<_}
 use native.Mathlib.Nat.{le-trans}
 use mathlib.Core.Bool.{Bool, true, false, not}
-use mathlib.Core.List.{List, map}
+use mathlib.Core.List.{List}
 use lib.Ieee.{Float}
-use lib.ListN.{length, take, length-map}
-use lib.Seq.{length-take-le}
+use lib.ListN.{length}
 use Rattle.random.specs.Play.{found, refused, on}
 use Rattle.random.specs.declared.Draws.{Draws}
 use Rattle.model.specs.declared.Object.{Object}
@@ -23,6 +22,8 @@ use Rattle.mania.specs.Convert.{factsAt}
 use Rattle.mania.specs.Convert as Convert
 use Rattle.density.specs.Queued.{queued}
 use Rattle.pattern.specs.declared.Pattern.{Pattern}
+use Rattle.pattern.specs.Answers.{madeBy}
+use Rattle.pattern.specs.Laws.Words.{note-count}
 use Rattle.object.specs.Notes.{noteAt}
 use Rattle.walk.specs.declared.Song.{Song}
 use Rattle.walk.specs.declared.Met.{Met}
@@ -31,21 +32,17 @@ use Rattle.walk.specs.declared.Step.{Step}
 use Rattle.walk.specs.Kept.{walkOf, leftBy, after-left}
 use Rattle.walk.specs.Steps.{Sung, Meets, KeepsBy, Finishes, densityAt, factsIn, objectRule, tooLong, Next, Stops, refuses, full, StepsBy, Steps}
 
--- what an object made, from the words that its generator left
-abbrev pub madeBy : Object → Pattern → Stair → List ℕ → Made
-madeBy o p stair words = record { notes = map (noteAt o) (take (p .count) words); mask = p .mask; last = p .last; stair = stair }
-
 pub facts-are : (bytes part : List ℕ) (g : Song) (w : Walk) (at : ℕ) (m : Met) → Meets bytes part g (w .density) at m → m .facts ≡ factsIn bytes g w (m .object)
 facts-are bytes part g w at m h = h .facts ∙ ap (λ (q : Queue.Density). factsAt (songOf bytes) (g .difficulty) q (m .object)) (h .density)
 
 module _ (bytes entry exit words : List ℕ) (g : Song) (w : Walk) (d e : Draws) (m : Met) (p : Pattern) (stair : Stair)
     (F : m .facts ≡ factsIn bytes g w (m .object)) (D : queued (m .density) ≡ densityAt w (m .object)) (size : p .count ≤ length words)
-    (says : found (madeBy (m .object) p stair words) e ≡ on (object (m .facts) (w .prev) (g .columns) (m .object)) d) where
+    (says : found (madeBy (noteAt (m .object)) words p stair) e ≡ on (object (m .facts) (w .prev) (g .columns) (m .object)) d) where
   abbrev made : Made
-  made = madeBy (m .object) p stair words
+  made = madeBy (noteAt (m .object)) words p stair
 
   counted : length (made .notes) ≡ p .count
-  counted = length-map (take (p .count) words) (noteAt (m .object)) ∙ length-take-le (p .count) words size
+  counted = note-count (noteAt (m .object)) words (p .count) size
 
   ruled : objectRule bytes g w (m .object) d ≡ found made e
   ruled = ap (λ (f : Facts). on (object f (w .prev) (g .columns) (m .object)) d) (sym F) ∙ sym says
@@ -81,7 +78,7 @@ module _ (bytes entry exit words : List ℕ) (g : Song) (w : Walk) (d e : Draws)
 -- what was kept is a step of the walk
 module _ (bytes part entry exit words : List ℕ) (g : Song) (w : Walk) (at : ℕ) (d e : Draws) (m : Met) (p : Pattern) (stair : Stair)
     (h : Meets bytes part g (w .density) at m) (size : 2050 ≤ length words) (deck : (p .count ≤ 2050) × (p .mask < 2 ^ g .columns) × (p .last < g .columns))
-    (says : found (madeBy (m .object) p stair words) e ≡ on (object (m .facts) (w .prev) (g .columns) (m .object)) d) where
+    (says : found (madeBy (noteAt (m .object)) words p stair) e ≡ on (object (m .facts) (w .prev) (g .columns) (m .object)) d) where
   by-refused : (b : Bool) (r : Step) → KeepsBy entry exit words m p stair w (not b) (r .walk) → r .number ≡ 11 → r .next ≡ m .next → r .draws ≡ e
       → StepsBy bytes part entry exit g w at d b r
   by-refused true r k n at' f =
