@@ -28,10 +28,11 @@ use Rattle.mania.specs.Job.{Job, ending, refusing, under}
 use Rattle.mania.specs.Job as OfSong
 use Rattle.mania.specs.Walked.{Stop, stop, spentAt, refusedAt, onWalk}
 use Rattle.mania.specs.Laws.Walks.{job-made, job-stopped, splice-start}
+use Rattle.walk.specs.Steps.{Written}
 use Rattle.job.specs.Job.{jobOf, job}
 use Rattle.job.proofs.Read.{in-order, fits-all}
 use Rattle.convert.specs.declared.JobEnd.the-variants as J
-use Rattle.convert.specs.Ends.{jobEnd, songRule, Written}
+use Rattle.convert.specs.Ends.{jobEnd, songRule}
 
 -- a refusal leaves nothing of the buffer but its length
 pub only-length : (n i d : ℕ) (b c : List ℕ) → length b ≡ length c → refusing n i d b ≡ refusing n i d c
@@ -74,7 +75,7 @@ module _ (bytes buffer : List ℕ) (a : ℕ) (parsed : parse bytes ≡ accepted 
   pub refused-left : (room : ℕ) (x : Stop) (e : Draws) → songRule bytes room start ≡ refused x e → e .left ≤ a
   refused-left room x e k = refused-run spentAt refusedAt _ start {B = Unit {0}} (λ o. tt) (λ y n. tt) (λ p n. refl) (λ r n. refl) x e k .1
 
-  module _ (h : 8 ≤ length buffer) (exit : List ℕ) (notes : ℕ) (e : Draws) (w : Written bytes buffer exit start notes e) where
+  module _ (h : 8 ≤ length buffer) (exit : List ℕ) (notes : ℕ) (e : Draws) (w : Written (songRule bytes (length buffer) start) buffer exit notes e) where
     abbrev ns : List Note
     ns = inWalkOrder (w .nss)
 

@@ -15,6 +15,7 @@ use Rattle.record.specs.Section.{breaks}
 use Rattle.record.specs.Object.{zeroStart, objects}
 use Rattle.record.specs.Laws.Known.{Known}
 use Rattle.record.specs.Laws.Ranges.{fit-song}
+use Rattle.mania.specs.declared.Note.{Note}
 use Rattle.mania.specs.Steps.{double}
 use Rattle.mania.specs.Convert.{columnsOf}
 use Rattle.mania.specs.PatternGenerator.{conversionDifficulty}
@@ -23,12 +24,12 @@ use Rattle.settings.specs.Counts.{columnsBy, keysOr, difficultyOf}
 use Rattle.settings.specs.Laws.{columns-of, columns-deck, difficulty-of}
 use Rattle.walk.specs.declared.Song.{Song}
 use Rattle.walk.specs.declared.WalkEnd.{WalkEnd}
-use Rattle.walk.specs.declared.WalkEnd.the-variants as E
-use Rattle.walk.specs.Steps.{rule, Walks}
+use Rattle.walk.specs.Steps.{rule, Ends}
+use Rattle.random.specs.Play.{Answer}
 use Rattle.random.specs.declared.Draws.{Draws}
 use Rattle.mania.specs.Convert.{beginning, walk}
-use Rattle.mania.specs.Walked.{onWalk}
-use Rattle.convert.specs.Ends.{Sings, songRule, Plays}
+use Rattle.mania.specs.Walked.{Stop, onWalk}
+use Rattle.convert.specs.Ends.{Sings, songRule}
 
 -- sliders and spinners are among the objects
 one-longer : (k : Kind) (m n : ℕ) → m ≤ n → longer k m ≤ suc n
@@ -76,14 +77,5 @@ module _ (bytes part : List ℕ) (m : Summary) (g : Song) (sings : Sings bytes m
       difficulty : Float
       difficulty = conversionDifficulty (songOf bytes .settings) (songOf bytes .breaks) (songOf bytes .objects)
 
-  pub played : (entry exit : List ℕ) (d : Draws) → count ≤ 4095 → (r : WalkEnd) → Walks bytes part entry exit g at count d r → Plays bytes entry exit d r
-  played entry exit d h (E.Made notes e) a =
-      record {
-        nss = a .nss;
-        says = sym (same-rule (length entry) d) ∙ a .says;
-        written = a .written;
-        number = a .number;
-        few = omega (arith, a .few);
-        room = a .room;
-      }
-  played entry exit d h (E.Refused n i e) a = sym (same-rule (length entry) d) ∙ a
+  pub played : (entry exit : List ℕ) (d : Draws) (r : WalkEnd) → Ends (rule bytes part g (length entry) at count d) entry exit r → Ends (songRule bytes (length entry) d) entry exit r
+  played entry exit d r h = subst (λ (walked : Answer Stop (List (List Note))). Ends walked entry exit r) (same-rule (length entry) d) h

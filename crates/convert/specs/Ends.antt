@@ -1,22 +1,17 @@
 -- What each case of an entry's answer means, with the buffer as it is then, and what the job's parts promise. Assumes nothing.
 use mathlib.Core.Path.{_≡_}
-use Prim.Native.Nat.{ℕ, _*_, _+_, _≤_}
+use Prim.Native.Nat.{ℕ}
 use mathlib.Core.List.{List}
-use lib.ListN.{length}
 use Rattle.random.specs.declared.Draws.{Draws}
-use Rattle.random.specs.Play.{Answer, found, refused}
+use Rattle.random.specs.Play.{Answer}
 use Rattle.record.specs.declared.Summary.{Summary}
 use Rattle.record.specs.Record.{songOf}
-use Rattle.chart.specs.Bytes.{splice}
 use Rattle.mania.specs.declared.Note.{Note}
 use Rattle.mania.specs.PatternGenerator.{conversionDifficulty}
-use Rattle.mania.specs.Chart.{body, inWalkOrder}
 use Rattle.mania.specs.Convert.{columnsOf, beginning, walk}
 use Rattle.mania.specs.Job.{Job, accepted, refusal}
-use Rattle.mania.specs.Walked.{Stop, stop, onWalk}
+use Rattle.mania.specs.Walked.{Stop, onWalk}
 use Rattle.walk.specs.declared.Song.{Song}
-use Rattle.walk.specs.declared.WalkEnd.{WalkEnd}
-use Rattle.walk.specs.declared.WalkEnd.the-variants as E
 use Rattle.walk.specs.Steps.{Sung}
 use Rattle.convert.specs.declared.JobEnd.{JobEnd}
 use Rattle.convert.specs.declared.JobEnd.the-variants as J
@@ -38,16 +33,3 @@ pub record Sings (bytes : List ℕ) (m : Summary) (g : Song) : Type 0 where
 abbrev pub songRule : List ℕ → ℕ → Draws → Answer Stop (List (List Note))
 songRule bytes room d =
     onWalk (walk (songOf bytes) (conversionDifficulty (songOf bytes .settings) (songOf bytes .breaks) (songOf bytes .objects)) (columnsOf (songOf bytes)) room 0 beginning (songOf bytes .objects)) d
-
--- the walk over all objects of the song: its notes in walk order stand from byte 8 on
-pub record Written (bytes entry exit : List ℕ) (d : Draws) (notes : ℕ) (e : Draws) : Type 0 where
-  pub nss : List (List Note)
-  pub says : songRule bytes (length entry) d ≡ found nss e
-  pub written : exit ≡ splice entry 8 (body (inWalkOrder nss))
-  pub number : notes ≡ length (inWalkOrder nss)
-  pub few : notes ≤ 2050 * 4095
-  pub room : 8 + 17 * notes ≤ length entry
-
-abbrev pub Plays : (bytes entry exit : List ℕ) → Draws → WalkEnd → Type 0
-Plays bytes entry exit d (E.Made notes e) = Written bytes entry exit d notes e
-Plays bytes entry exit d (E.Refused n i e) = songRule bytes (length entry) d ≡ refused (stop i n) e

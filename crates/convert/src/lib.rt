@@ -5,7 +5,8 @@ ghost use lib.ListN.{length, replicate};
 ghost use Rattle.job.specs.Job.{job};
 ghost use Rattle.record.specs.Laws.Known.{Known};
 ghost use Rattle.mania.specs.Job.{refusing};
-ghost use Rattle.convert.specs.Ends.{jobEnd, Sings, Plays};
+ghost use Rattle.walk.specs.Steps.{Ends};
+ghost use Rattle.convert.specs.Ends.{jobEnd, Sings, songRule};
 use random::Draws;
 use record::Checked;
 use record::Summary;
@@ -43,7 +44,7 @@ fn song_of(bytes: &[u8], m: Summary) -> Song
 // The objects' part of the record: from the byte that holds the first object's first bit; without objects it is nothing.
 fn walk_part(bytes: &[u8], m: Summary, chart: &mut [u8], g: Song, d: Draws) -> WalkEnd
     requires { ⌜ Known (now bytes) m × Sings (now bytes) m g × (8 ≤ length (now chart)) ⌝ }
-    ensures { λ r. ⌜ Plays (now (bytes .entry)) (now (chart .entry)) (now (chart .exit)) d r ⌝ }
+    ensures { λ r. ⌜ Ends (songRule (now (bytes .entry)) (length (now (chart .entry))) d) (now (chart .entry)) (now (chart .exit)) r ⌝ }
 {
     let mut words: [u64; 2050] = [0; 2050];
     let mut spare: [u64; 2050] = [0; 2050];

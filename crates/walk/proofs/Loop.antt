@@ -33,7 +33,7 @@ use Rattle.density.specs.Queued.{Held}
 use Rattle.walk.specs.declared.Song.{Song}
 use Rattle.walk.specs.declared.Walk.{Walk}
 use Rattle.walk.specs.Kept.{walkOf}
-use Rattle.walk.specs.Steps.{Sound, Next, Stops, refuses, full, rule, All}
+use Rattle.walk.specs.Steps.{Sound, Next, Stops, refuses, full, rule, Written}
 
 -- ---- notes in walk order, and their bytes
 
@@ -164,10 +164,10 @@ module _ (bytes part entry : List ℕ) (g : Song) (start count : ℕ) (d : Draws
           near = omega (arith, far, a .near);
         }
 
-  pub at-end : (chart : List ℕ) (w : Walk) (here : ℕ) (rest : Draws) (i : ℕ) → count ≤ i → At bytes part entry chart g start count d w here rest i
-      → All bytes part entry chart g start count d (w .notes) rest
+  pub at-end : (chart : List ℕ) (w : Walk) (here : ℕ) (rest : Draws) (i : ℕ) → count ≤ i → count ≤ 4095 → At bytes part entry chart g start count d w here rest i
+      → Written (rule bytes part g (length entry) start count d) entry chart (w .notes) rest
   unfolding objects entries
-  at-end chart w here rest i h a =
+  at-end chart w here rest i h l a =
       let none : count - i ≡ 0 = omega (arith, a .passed) in
       record {
         nss = a .nss;

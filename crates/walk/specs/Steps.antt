@@ -126,15 +126,15 @@ Steps bytes part entry exit g w at d r = StepsBy bytes part entry exit g w at d 
 abbrev pub rule : (bytes part : List ℕ) → Song → ℕ → ℕ → ℕ → Draws → Answer Stop (List (List Note))
 rule bytes part g room at count d = onWalk (walk (songOf bytes) (g .difficulty) (g .columns) room 0 beginning (objects part at count)) d
 
--- all notes in walk order stand from byte 8 on
-pub record All (bytes part entry exit : List ℕ) (g : Song) (at count : ℕ) (d : Draws) (notes : ℕ) (e : Draws) : Type 0 where
+-- all notes of a walk stand in walk order from byte 8 on; `walked` is what its rule comes to
+pub record Written (walked : Answer Stop (List (List Note))) (entry exit : List ℕ) (notes : ℕ) (e : Draws) : Type 0 where
   pub nss : List (List Note)
-  pub says : rule bytes part g (length entry) at count d ≡ found nss e
+  pub says : walked ≡ found nss e
   pub written : exit ≡ splice entry 8 (body (inWalkOrder nss))
   pub number : notes ≡ length (inWalkOrder nss)
-  pub few : notes ≤ 2050 * count
+  pub few : notes ≤ 2050 * 4095
   pub room : 8 + 17 * notes ≤ length entry
 
-abbrev pub Walks : (bytes part entry exit : List ℕ) → Song → ℕ → ℕ → Draws → WalkEnd → Type 0
-Walks bytes part entry exit g at count d (E.Made notes e) = All bytes part entry exit g at count d notes e
-Walks bytes part entry exit g at count d (E.Refused n i e) = rule bytes part g (length entry) at count d ≡ refused (stop i n) e
+abbrev pub Ends : Answer Stop (List (List Note)) → (entry exit : List ℕ) → WalkEnd → Type 0
+Ends walked entry exit (E.Made notes e) = Written walked entry exit notes e
+Ends walked entry exit (E.Refused n i e) = walked ≡ refused (stop i n) e

@@ -11,7 +11,7 @@ ghost use Rattle.mania.specs.PathObject.{spanLength};
 ghost use Rattle.mania.specs.Range.{InRange};
 ghost use Rattle.density.specs.Queued.{Held, queued};
 ghost use Rattle.walk.specs.Kept.{walkOf, leftBy};
-ghost use Rattle.walk.specs.Steps.{Sung, Meets, Keeps, Finishes, Sound, Steps, Walks};
+ghost use Rattle.walk.specs.Steps.{Sung, Meets, Keeps, Finishes, Sound, Steps, rule, Ends};
 use density::Density;
 use density::compute_density;
 use density::node_time;
@@ -359,7 +359,7 @@ pub fn walk_objects(
     d: Draws,
 ) -> WalkEnd
     requires { ⌜ Sung (now bytes) g × Each InRange (objects (now part) at count) × (at ≤ 7) × (count ≤ 4095) × (8 ≤ length (now chart)) × (2050 ≤ length (now words)) × (2050 ≤ length (now spare)) ⌝ }
-    ensures { λ r. ⌜ Walks (now (bytes .entry)) (now (part .entry)) (now (chart .entry)) (now (chart .exit)) g at count d r ⌝ }
+    ensures { λ r. ⌜ Ends (rule (now (bytes .entry)) (now (part .entry)) g (length (now (chart .entry))) at count d) (now (chart .entry)) (now (chart .exit)) r ⌝ }
 {
     let mut w = beginning();
     let mut here = at;

@@ -11,7 +11,8 @@ use Rattle.record.specs.Record.{songOf}
 use Rattle.mania.specs.Convert.{seed}
 use Rattle.mania.specs.Walked.{stop}
 use Rattle.walk.specs.declared.WalkEnd.{WalkEnd}
-use Rattle.convert.specs.Ends.{songRule, Written, Plays}
+use Rattle.walk.specs.Steps.{Written, Ends}
+use Rattle.convert.specs.Ends.{songRule}
 use Rattle.convert.proofs.Songs.{settings-accepted}
 use Rattle.convert.proofs.Jobs.{only-length, short, stopped-job, found-left, refused-left, made-job}
 use borrow.Author.Needs.{needs}
@@ -53,25 +54,28 @@ begins c =
     ap (λ (r : Random). record { random = r; left = s .args .allowance }) (c .from-seed .ensures ∙ ap seeded (c .before .seed .ensures ∙ ap seed (s .pre .settings)))
 
 -- how the walk ended
-ended : (c : tie.After-walk-part) → Plays (c .before .before .before .before .before .before .before .before .before .args .bytes .now) (c .before .before .before .before .before .before .before .before .before .args .chart .now) (c .walk-part .last .1 .1 .0)
-    (record { random = seeded (seed (songOf (c .before .before .before .before .before .before .before .before .before .args .bytes .now) .settings)); left = c .before .before .before .before .before .before .before .before .before .args .allowance }) (c .walk-part .result)
-ended c = subst (λ (d : Draws). Plays (c .before .before .before .before .before .before .before .before .before .args .bytes .now) (c .before .before .before .before .before .before .before .before .before .args .chart .now) (c .walk-part .last .1 .1 .0) d (c .walk-part .result)) (begins (c .before .before)) (c .walk-part .ensures)
+ended : (c : tie.After-walk-part)
+    → Ends (songRule (c .before .before .before .before .before .before .before .before .before .args .bytes .now) (length (c .before .before .before .before .before .before .before .before .before .args .chart .now)) (record { random = seeded (seed (songOf (c .before .before .before .before .before .before .before .before .before .args .bytes .now) .settings)); left = c .before .before .before .before .before .before .before .before .before .args .allowance }))
+    (c .before .before .before .before .before .before .before .before .before .args .chart .now) (c .walk-part .last .1 .1 .0) (c .walk-part .result)
+ended c =
+    let a = c .before .before .before .before .before .before .before .before .before .args in
+    subst (λ (d : Draws). Ends (songRule (a .bytes .now) (length (a .chart .now)) d) (a .chart .now) (c .walk-part .last .1 .1 .0) (c .walk-part .result)) (begins (c .before .before)) (c .walk-part .ensures)
 
 made : (c : tie.After-notes)
-    → Written (c .before .before .before .before .before .before .before .before .before .before .before .before .before .args .bytes .now) (c .before .before .before .before .before .before .before .before .before .before .before .before .before .args .chart .now) (c .before .before .before .before .walk-part .last .1 .1 .0)
-    (record { random = seeded (seed (songOf (c .before .before .before .before .before .before .before .before .before .before .before .before .before .args .bytes .now) .settings)); left = c .before .before .before .before .before .before .before .before .before .before .before .before .before .args .allowance }) (c .notes .given .0 .0) (c .notes .given .0 .1 .0)
+    → Written (songRule (c .before .before .before .before .before .before .before .before .before .before .before .before .before .args .bytes .now) (length (c .before .before .before .before .before .before .before .before .before .before .before .before .before .args .chart .now)) (record { random = seeded (seed (songOf (c .before .before .before .before .before .before .before .before .before .before .before .before .before .args .bytes .now) .settings)); left = c .before .before .before .before .before .before .before .before .before .before .before .before .before .args .allowance }))
+    (c .before .before .before .before .before .before .before .before .before .before .before .before .before .args .chart .now) (c .before .before .before .before .walk-part .last .1 .1 .0) (c .notes .given .0 .0) (c .notes .given .0 .1 .0)
 made c =
     let s = c .before .before .before .before .before .before .before .before .before .before .before .before .before in
-    subst (λ (r : WalkEnd). Plays (s .args .bytes .now) (s .args .chart .now) (c .before .before .before .before .walk-part .last .1 .1 .0)
-    (record { random = seeded (seed (songOf (s .args .bytes .now) .settings)); left = s .args .allowance }) r) (c .notes .given .1) (ended (c .before .before .before .before))
+    subst (λ (r : WalkEnd). Ends (songRule (s .args .bytes .now) (length (s .args .chart .now)) (record { random = seeded (seed (songOf (s .args .bytes .now) .settings)); left = s .args .allowance }))
+    (s .args .chart .now) (c .before .before .before .before .walk-part .last .1 .1 .0) r) (c .notes .given .1) (ended (c .before .before .before .before))
 
 stops : (c : tie.After-n)
     → songRule (c .before .before .before .before .before .before .before .before .before .before .before .before .before .args .bytes .now) (length (c .before .before .before .before .before .before .before .before .before .before .before .before .before .args .chart .now)) (record { random = seeded (seed (songOf (c .before .before .before .before .before .before .before .before .before .before .before .before .before .args .bytes .now) .settings)); left = c .before .before .before .before .before .before .before .before .before .before .before .before .before .args .allowance })
     ≡ refused (stop (c .n .given .0 .1 .0) (c .n .given .0 .0)) (c .n .given .0 .1 .1 .0)
 stops c =
     let s = c .before .before .before .before .before .before .before .before .before .before .before .before .before in
-    subst (λ (r : WalkEnd). Plays (s .args .bytes .now) (s .args .chart .now) (c .before .before .before .before .walk-part .last .1 .1 .0)
-    (record { random = seeded (seed (songOf (s .args .bytes .now) .settings)); left = s .args .allowance }) r) (c .n .given .1) (ended (c .before .before .before .before))
+    subst (λ (r : WalkEnd). Ends (songRule (s .args .bytes .now) (length (s .args .chart .now)) (record { random = seeded (seed (songOf (s .args .bytes .now) .settings)); left = s .args .allowance }))
+    (s .args .chart .now) (c .before .before .before .before .walk-part .last .1 .1 .0) r) (c .n .given .1) (ended (c .before .before .before .before))
 
 sub-finish : tie.Need-sub-finish
 sub-finish c =

@@ -50,7 +50,7 @@ returns c =
     let none : 0 ≡ s .args .m .counts .objects = sym (c .before .before .before .before .before .before .before .before .before .if1 .taken) in
     let bytes = s .args .bytes .now in
     let all : objects [] 0 0 ≡ songOf bytes .objects = ap (objects (drop (s .args .m .places .objects / 8) bytes) (s .args .m .places .objects % 8)) none ∙ sym (k .objects) in
-    played bytes [] (s .args .m) (s .args .g) (s .pre .1) 0 0 all (s .args .chart .now) (c .before .before .before .before .walk-objects .last .1 .1 .0) (s .args .d) (omega arith) (c .before .before .before .before .walk-objects .result) (c .before .before .before .before .walk-objects .ensures)
+    played bytes [] (s .args .m) (s .args .g) (s .pre .1) 0 0 all (s .args .chart .now) (c .before .before .before .before .walk-objects .last .1 .1 .0) (s .args .d) (c .before .before .before .before .walk-objects .result) (c .before .before .before .before .walk-objects .ensures)
 
 -- the first object's byte is there
 part-in : (c : tie.Else1) → c .before .before .before .before .before .args .m .places .objects / 8 ≤ length (c .before .before .before .before .before .args .bytes .now)
@@ -105,7 +105,7 @@ returns-2 c =
     let n = s .args .m .counts .objects in
     let part = take (length bytes - first / 8) (drop (first / 8) bytes) in
     let all : objects part (first % 8) n ≡ songOf bytes .objects = ap (λ (p : List ℕ). objects p (first % 8) n) (rest-part bytes (first / 8)) ∙ sym (k .objects) in
-    played bytes part (s .args .m) (s .args .g) (s .pre .1) (first % 8) n all (s .args .chart .now) (c .before .before .before .before .walk-objects2 .last .1 .1 .0) (s .args .d) (omega (arith, k .small .objects-le)) (c .before .before .before .before .walk-objects2 .result)
+    played bytes part (s .args .m) (s .args .g) (s .pre .1) (first % 8) n all (s .args .chart .now) (c .before .before .before .before .walk-objects2 .last .1 .1 .0) (s .args .d) (c .before .before .before .before .walk-objects2 .result)
     (c .before .before .before .before .walk-objects2 .ensures)
 
 pub walk-part-spec : {M : Type 1} → statement M

@@ -101,8 +101,9 @@ same-length-6 c = omega arith
 returns-2 : tie.Need-returns-2 Inv-loop μ-loop
 returns-2 c =
     let l = c .before .loop in
-    let a = c .before .before .before .before .before .before .before .before .args in
-    at-end (a .bytes .now) (a .part .now) (a .chart .now) (a .g) (a .at) (a .count) (a .d) (l .chart) (l .w) (l .here) (l .rest) (l .i) (omega arith) (l .inv .0)
+    let s = c .before .before .before .before .before .before .before .before in
+    let a = s .args in
+    at-end (a .bytes .now) (a .part .now) (a .chart .now) (a .g) (a .at) (a .count) (a .d) (l .chart) (l .w) (l .here) (l .rest) (l .i) (omega arith) (s .pre .3) (l .inv .0)
 
 pub walk-objects-spec : {M : Type 1} → statement M
 walk-objects-spec =
