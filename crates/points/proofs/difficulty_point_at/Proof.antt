@@ -1,4 +1,4 @@
--- `record::lookup::difficulty_point_at` meets its contract. Assumes nothing.
+-- `points::difficulty_point_at` meets its contract. Assumes nothing.
 use mathlib.Core.Path.{sym, _∙_}
 use lib.Ieee.{round, size, span, climb, units, odd, ofBits, ofFields}
 use Rattle.points.proofs.Lookups.{velocity-first, velocity-last}

@@ -1,4 +1,4 @@
--- `record::lookup::effect_point_at` meets its contract. Assumes nothing.
+-- `points::effect_point_at` meets its contract. Assumes nothing.
 use mathlib.Core.Path.{sym, ap, _∙_}
 use Prim.Native.Nat.{ℕ}
 use lib.Dec.{eqb}

@@ -1,4 +1,4 @@
--- `record::lookup::timing_point_at` meets its contract. Assumes nothing.
+-- `points::timing_point_at` meets its contract. Assumes nothing.
 use Prim.Native.Nat.{_<_}
 use native.Mathlib.Omega.{arith}
 use lib.Ieee.{round, size, span, climb, units, odd, ofBits, ofFields}
