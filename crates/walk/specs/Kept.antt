@@ -2,15 +2,25 @@
 use mathlib.Core.Path.{_≡_, refl}
 use Prim.Native.Nat.{ℕ, _+_}
 use lib.ListN.{length}
+use Rattle.model.specs.declared.Kind.{Kind}
+use Rattle.model.specs.declared.Kind.the-variants.{Circle, Slider, Spinner, Hold}
 use Rattle.model.specs.declared.Object.{Object}
 use Rattle.mania.specs.declared.Facts.{Facts}
 use Rattle.mania.specs.declared.Stair.{Stair}
 use Rattle.mania.specs.LimitedQueue as Queue
 use Rattle.mania.specs.Made.{Made}
+use Rattle.mania.specs.PathObject.{spanLength}
 use Rattle.mania.specs.Convert.{timeAfter, positionAfter, leaves, afterObject}
 use Rattle.mania.specs.Convert as Convert
 use Rattle.density.specs.Queued.{queued}
 use Rattle.walk.specs.declared.Walk.{Walk}
+
+-- the length of a slider's span; 0 where an object has no spans
+unfoldable pub spanIn : Facts → Object → Kind → ℕ
+spanIn f o Circle = 0
+spanIn f o (Slider repeats distance node) = spanLength f o repeats distance
+spanIn f o (Spinner duration) = 0
+spanIn f o (Hold duration) = 0
 
 unfoldable pub walkOf : Walk → Convert.Walk
 walkOf w = record { prev = w .prev; density = queued (w .density); notes = w .notes }

@@ -5,12 +5,13 @@ ghost use lib.ListN.{length};
 ghost use Rattle.model.specs.Each.{Each};
 ghost use Rattle.record.specs.Record.{songOf};
 ghost use Rattle.record.specs.Object.{readObject, objects};
+ghost use Rattle.mania.specs.declared.Facts.{Facts};
 ghost use Rattle.mania.specs.Convert as Convert;
 ghost use Rattle.mania.specs.Convert.{positionAfter, timeAfter, leaves, factsAt};
 ghost use Rattle.mania.specs.PathObject.{spanLength};
 ghost use Rattle.mania.specs.Range.{InRange};
 ghost use Rattle.density.specs.Queued.{Held, queued};
-ghost use Rattle.walk.specs.Kept.{walkOf, leftBy};
+ghost use Rattle.walk.specs.Kept.{spanIn, walkOf, leftBy};
 ghost use Rattle.walk.specs.Steps.{Sung, Meets, Keeps, Finishes, Sound, Steps, rule, Ends};
 use density::Density;
 use density::compute_density;
@@ -59,6 +60,23 @@ fn span_of(f: Facts, o: Object, repeats: u16, distance: Distance) -> u32
     slider_times::span_length(start, end, spans)
 }
 
+// The same of any object: 0 where it has no spans.
+fn span_in(f: Facts, o: Object) -> u32
+    ensures { λ r. ⌜ r ≡ spanIn f o (o .kind) ⌝ }
+{
+    let kind = o.kind;
+    match kind {
+        Kind::Circle => 0,
+        Kind::Slider {
+            repeats,
+            distance,
+            node: _,
+        } => span_of(f, o, repeats, distance),
+        Kind::Spinner(_) => 0,
+        Kind::Hold(_) => 0,
+    }
+}
+
 // The density that an object meets: a circle counts in it.
 pub fn meets(o: Object, d: Density) -> Density
     requires { ⌜ Held d ⌝ }
@@ -77,53 +95,36 @@ pub fn meets(o: Object, d: Density) -> Density
     }
 }
 
-// The density after a slider.
-fn after_slider(f: Facts, o: Object, repeats: u16, distance: Distance, d: Density) -> Density
+// The density after an object whose span length is given.
+pub fn density_after(o: Object, span: u32, d: Density) -> Density
     requires { ⌜ Held d ⌝ }
-    ensures { λ r. ⌜ Held r × (queued r ≡ Convert.nodes o (spanLength f o repeats distance) (repeats + 2) 0 (queued d)) ⌝ }
-{
-    let length = span_of(f, o, repeats, distance);
-    nodes(d, o, length, repeats as u32 + 2)
-}
-
-// The density after an object.
-pub fn density_after(f: Facts, o: Object, d: Density) -> Density
-    requires { ⌜ Held d ⌝ }
-    ensures { λ r. ⌜ Held r × (queued r ≡ leaves f o (o .kind) (queued d)) ⌝ }
+    ensures { λ r. ⌜ Held r × ((f : Facts) → span ≡ spanIn f o (o .kind) → queued r ≡ leaves f o (o .kind) (queued d)) ⌝ }
 {
     let kind = o.kind;
     match kind {
         Kind::Circle => d,
         Kind::Slider {
             repeats,
-            distance,
+            distance: _,
             node: _,
-        } => after_slider(f, o, repeats, distance, d),
+        } => nodes(d, o, span, repeats as u32 + 2),
         Kind::Spinner(duration) => compute_density(d, o.start + duration),
         Kind::Hold(duration) => compute_density(d, o.start + duration),
     }
 }
 
-// The time of a slider's last node.
-fn last_node(f: Facts, o: Object, repeats: u16, distance: Distance) -> f64
-    ensures { λ r. ⌜ r ≡ Convert.nodeTime o (spanLength f o repeats distance) (repeats + 1) ⌝ }
-{
-    let length = span_of(f, o, repeats, distance);
-    node_time(o, length, repeats as u32 + 1)
-}
-
-// The previous time after an object.
-pub fn time_after(f: Facts, o: Object) -> f64
-    ensures { λ r. ⌜ r ≡ timeAfter f o (o .kind) ⌝ }
+// The previous time after an object whose span length is given.
+pub fn time_after(o: Object, span: u32) -> f64
+    ensures { λ r. ⌜ ((f : Facts) → span ≡ spanIn f o (o .kind) → r ≡ timeAfter f o (o .kind)) ⌝ }
 {
     let kind = o.kind;
     match kind {
         Kind::Circle => o.start,
         Kind::Slider {
             repeats,
-            distance,
+            distance: _,
             node: _,
-        } => last_node(f, o, repeats, distance),
+        } => node_time(o, span, repeats as u32 + 1),
         Kind::Spinner(duration) => o.start + duration,
         Kind::Hold(duration) => o.start + duration,
     }
@@ -161,9 +162,10 @@ pub fn after_object(
     requires { ⌜ Held met × (w .notes + count < 2 ^ 32) ⌝ }
     ensures { λ r. ⌜ Held (r .density) × (walkOf r ≡ leftBy f o (queued met) mask last stair count (walkOf w)) ⌝ }
 {
-    let time = time_after(f, o);
+    let span = span_in(f, o);
+    let time = time_after(o, span);
     let position = position_after(o);
-    let density = density_after(f, o, met);
+    let density = density_after(o, span, met);
     let notes = w.notes + count;
     Walk {
         prev: PrevValues {

@@ -4,6 +4,9 @@ use borrow.Author.Needs.{needs}
 use Rattle.walk.proofs.after_object.Statement.{statement}
 use Rattle.walk.proofs.after_object.Tie as tie
 
+span-in-requires : tie.Need-span-in-requires
+span-in-requires c κs = search needs
+
 time-after-requires : tie.Need-time-after-requires
 time-after-requires c κs = search needs
 
@@ -20,9 +23,10 @@ returns : tie.Need-returns
 unfolding walkOf leftBy
 returns c =
     let k = c .before in
-    (k .density-after .ensures .0, rw (k .before .before .time-after .ensures, k .before .position-after .ensures, k .density-after .ensures .1))
+    let s = k .before .before .before .span-in .ensures in
+    (k .density-after .ensures .0, rw (k .before .before .time-after .ensures _ s, k .before .position-after .ensures, k .density-after .ensures .1 _ s))
 
 pub after-object-spec : {M : Type 1} → statement M
 after-object-spec =
     tie.close
-    (tie.spec time-after-requires position-after-requires density-after-requires add-notes returns)
+    (tie.spec span-in-requires time-after-requires position-after-requires density-after-requires add-notes returns)

@@ -1,8 +1,10 @@
 -- `walk::density_after` meets its contract. Assumes nothing.
 use mathlib.Core.Path.{sym, ap, _∙_}
+use Prim.Native.Nat.{ℕ, _+_}
 use Rattle.model.specs.declared.Kind.{Kind}
 use Rattle.density.specs.Queued.{queued}
-use Rattle.mania.specs.Convert.{leaves}
+use Rattle.mania.specs.Convert.{nodes, leaves}
+use Rattle.walk.specs.Kept.{spanIn}
 use borrow.Author.Needs.{needs}
 use Rattle.walk.proofs.density_after.Statement.{statement}
 use Rattle.walk.proofs.density_after.Tie as tie
@@ -13,8 +15,14 @@ enum-told c = search needs
 enum-known-kind : tie.Need-enum-known-kind
 enum-known-kind c = search needs
 
-after-slider-requires : tie.Need-after-slider-requires
-after-slider-requires c κs = search needs
+cast-nodes : tie.Need-cast-nodes
+cast-nodes c = search needs
+
+add-nodes : tie.Need-add-nodes
+add-nodes c = search needs
+
+nodes-requires : tie.Need-nodes-requires
+nodes-requires c κs = search needs
 
 enum-known-kind-2 : tie.Need-enum-known-kind-2
 enum-known-kind-2 c = search needs
@@ -30,21 +38,25 @@ compute-density-requires-2 c κs = search needs
 
 returns : tie.Need-returns
 unfolding leaves
-returns c = (c .before .before .pre, rw (c .enum-told .given .1))
+returns c = (c .before .before .pre, λ f e. rw (c .enum-told .given .1))
 
 returns-2 : tie.Need-returns-2
-unfolding leaves
+unfolding leaves spanIn
 returns-2 c =
     let a = c .before .before .before .before .args in
-    (c .after-slider .ensures .0, c .after-slider .ensures .1 ∙ ap (λ (k : Kind). leaves (a .f) (a .o) k (queued (a .d))) (sym (c .before .before .kind .given .1)))
+    let k = c .before .before .kind .given in
+    let q = queued (a .d) in (
+      c .nodes .ensures .0,
+      λ f e. c .nodes .ensures .1 ∙ (ap (λ (n : ℕ). nodes (a .o) n (k .0 .0 + 2) 0 q) (e ∙ ap (spanIn f (a .o)) (k .1)) ∙ ap (λ (x : Kind). leaves f (a .o) x q) (sym (k .1))),
+    )
 
 returns-3 : tie.Need-returns-3
 unfolding leaves
-returns-3 c = (c .compute-density .ensures .0, rw (c .before .before .before .kind2 .given .1) (c .compute-density .ensures .1))
+returns-3 c = (c .compute-density .ensures .0, λ f e. rw (c .before .before .before .kind2 .given .1) (c .compute-density .ensures .1))
 
 returns-4 : tie.Need-returns-4
 unfolding leaves
-returns-4 c = (c .compute-density2 .ensures .0, rw (c .before .before .before .kind3 .given .1) (c .compute-density2 .ensures .1))
+returns-4 c = (c .compute-density2 .ensures .0, λ f e. rw (c .before .before .before .kind3 .given .1) (c .compute-density2 .ensures .1))
 
 pub density-after-spec : {M : Type 1} → statement M
 density-after-spec =
@@ -52,7 +64,9 @@ density-after-spec =
     (tie.spec
     enum-told
     enum-known-kind
-    after-slider-requires
+    cast-nodes
+    add-nodes
+    nodes-requires
     enum-known-kind-2
     compute-density-requires
     enum-known-kind-3

@@ -1,7 +1,8 @@
 -- `walk::time_after` meets its contract. Assumes nothing.
 use mathlib.Core.Path.{sym, ap, _∙_}
-use Rattle.model.specs.declared.Kind.{Kind}
-use Rattle.mania.specs.Convert.{timeAfter}
+use Prim.Native.Nat.{ℕ, _+_}
+use Rattle.mania.specs.Convert.{nodeTime, timeAfter}
+use Rattle.walk.specs.Kept.{spanIn}
 use borrow.Author.Needs.{needs}
 use Rattle.walk.proofs.time_after.Statement.{statement}
 use Rattle.walk.proofs.time_after.Tie as tie
@@ -12,8 +13,14 @@ enum-told c = search needs
 enum-known-kind : tie.Need-enum-known-kind
 enum-known-kind c = search needs
 
-last-node-requires : tie.Need-last-node-requires
-last-node-requires c κs = search needs
+cast-node-time : tie.Need-cast-node-time
+cast-node-time c = search needs
+
+add-node-time : tie.Need-add-node-time
+add-node-time c = search needs
+
+node-time-requires : tie.Need-node-time-requires
+node-time-requires c κs = search needs
 
 enum-known-kind-2 : tie.Need-enum-known-kind-2
 enum-known-kind-2 c = search needs
@@ -23,21 +30,22 @@ enum-known-kind-3 c = search needs
 
 returns : tie.Need-returns
 unfolding timeAfter
-returns c = rw (c .enum-told .given .1)
+returns c = λ f e. rw (c .enum-told .given .1)
 
 returns-2 : tie.Need-returns-2
-unfolding timeAfter
+unfolding timeAfter spanIn
 returns-2 c =
-    let a = c .before .before .before .before .args in
-    c .last-node .ensures ∙ ap (λ (k : Kind). timeAfter (a .f) (a .o) k) (sym (c .before .before .kind .given .1))
+    let o = c .before .before .before .before .args .o in
+    let k = c .before .before .kind .given in
+    λ f e. c .node-time .ensures ∙ (ap (λ (n : ℕ). nodeTime o n (k .0 .0 + 1)) (e ∙ ap (spanIn f o) (k .1)) ∙ ap (timeAfter f o) (sym (k .1)))
 
 returns-3 : tie.Need-returns-3
 unfolding timeAfter
-returns-3 c = rw (c .before .before .kind2 .given .1)
+returns-3 c = λ f e. rw (c .before .before .kind2 .given .1)
 
 returns-4 : tie.Need-returns-4
 unfolding timeAfter
-returns-4 c = rw (c .before .before .kind3 .given .1)
+returns-4 c = λ f e. rw (c .before .before .kind3 .given .1)
 
 pub time-after-spec : {M : Type 1} → statement M
 time-after-spec =
@@ -45,7 +53,9 @@ time-after-spec =
     (tie.spec
     enum-told
     enum-known-kind
-    last-node-requires
+    cast-node-time
+    add-node-time
+    node-time-requires
     enum-known-kind-2
     enum-known-kind-3
     returns
