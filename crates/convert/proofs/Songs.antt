@@ -29,7 +29,7 @@ use Rattle.random.specs.Play.{Answer}
 use Rattle.random.specs.declared.Draws.{Draws}
 use Rattle.mania.specs.Convert.{beginning, walk}
 use Rattle.mania.specs.Walked.{Stop, onWalk}
-use Rattle.convert.specs.Ends.{Sings, songRule}
+use Rattle.convert.specs.Ends.{OfSummary, songRule}
 
 -- sliders and spinners are among the objects
 one-longer : (k : Kind) (m n : ℕ) → m ≤ n → longer k m ≤ suc n
@@ -67,11 +67,11 @@ module _ (bytes : List ℕ) (m : Summary) (k : Known bytes m) where
 
 -- ---- the walk over the part is the walk over the song
 
-module _ (bytes part : List ℕ) (m : Summary) (g : Song) (sings : Sings bytes m g) (at count : ℕ) (all : objects part at count ≡ songOf bytes .objects) where
+module _ (bytes part : List ℕ) (m : Summary) (g : Song) (same : OfSummary bytes m g) (at count : ℕ) (all : objects part at count ≡ songOf bytes .objects) where
   same-rule : (room : ℕ) (d : Draws) → rule bytes part g room at count d ≡ songRule bytes room d
   same-rule room d =
-      ap (λ (x : Float). onWalk (walk (songOf bytes) x (g .columns) room 0 beginning (objects part at count)) d) (sings .difficulty)
-      ∙ ap (λ (c : ℕ). onWalk (walk (songOf bytes) difficulty c room 0 beginning (objects part at count)) d) (sings .columns)
+      ap (λ (x : Float). onWalk (walk (songOf bytes) x (g .columns) room 0 beginning (objects part at count)) d) (same .difficulty)
+      ∙ ap (λ (c : ℕ). onWalk (walk (songOf bytes) difficulty c room 0 beginning (objects part at count)) d) (same .columns)
       ∙ ap (λ (os : List Object). onWalk (walk (songOf bytes) difficulty (columnsOf (songOf bytes)) room 0 beginning os) d) all
     where
       difficulty : Float

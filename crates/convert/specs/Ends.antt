@@ -12,7 +12,7 @@ use Rattle.mania.specs.Convert.{columnsOf, beginning, walk}
 use Rattle.mania.specs.Job.{Job, accepted, refusal}
 use Rattle.mania.specs.Walked.{Stop, onWalk}
 use Rattle.walk.specs.declared.Song.{Song}
-use Rattle.walk.specs.Steps.{Sung}
+use Rattle.walk.specs.Steps.{OfRecord}
 use Rattle.convert.specs.declared.JobEnd.{JobEnd}
 use Rattle.convert.specs.declared.JobEnd.the-variants as J
 
@@ -22,8 +22,8 @@ jobEnd chart (J.Chart length) = record { answer = accepted length; chart = chart
 jobEnd chart (J.Refused n i d) = record { answer = refusal n i d; chart = chart }
 
 -- what the walk takes is the record's song's
-pub record Sings (bytes : List ℕ) (m : Summary) (g : Song) : Type 0 where
-  pub sung : Sung bytes g
+pub record OfSummary (bytes : List ℕ) (m : Summary) (g : Song) : Type 0 where
+  pub song : OfRecord bytes g
   pub columns : g .columns ≡ columnsOf (songOf bytes)
   pub difficulty : g .difficulty ≡ conversionDifficulty (songOf bytes .settings) (songOf bytes .breaks) (songOf bytes .objects)
   pub counts : g .counts ≡ m .counts

@@ -6,7 +6,7 @@ ghost use Rattle.job.specs.Job.{job};
 ghost use Rattle.record.specs.Laws.Known.{Known};
 ghost use Rattle.mania.specs.Job.{refusing};
 ghost use Rattle.walk.specs.Steps.{Ends};
-ghost use Rattle.convert.specs.Ends.{jobEnd, Sings, songRule};
+ghost use Rattle.convert.specs.Ends.{jobEnd, OfSummary, songRule};
 use random::Draws;
 use record::Checked;
 use record::Summary;
@@ -22,7 +22,7 @@ pub enum JobEnd {
 // What the walk takes of the song that a record has.
 fn song_of(bytes: &[u8], m: Summary) -> Song
     requires { ⌜ Known (now bytes) m ⌝ }
-    ensures { λ r. ⌜ Sings (now (bytes .entry)) m r ⌝ }
+    ensures { λ r. ⌜ OfSummary (now (bytes .entry)) m r ⌝ }
 {
     let settings = m.settings;
     let counts = m.counts;
@@ -43,7 +43,7 @@ fn song_of(bytes: &[u8], m: Summary) -> Song
 
 // The objects' part of the record: from the byte that holds the first object's first bit; without objects it is nothing.
 fn walk_part(bytes: &[u8], m: Summary, chart: &mut [u8], g: Song, d: Draws) -> WalkEnd
-    requires { ⌜ Known (now bytes) m × Sings (now bytes) m g × (8 ≤ length (now chart)) ⌝ }
+    requires { ⌜ Known (now bytes) m × OfSummary (now bytes) m g × (8 ≤ length (now chart)) ⌝ }
     ensures { λ r. ⌜ Ends (songRule (now (bytes .entry)) (length (now (chart .entry))) d) (now (chart .entry)) (now (chart .exit)) r ⌝ }
 {
     let mut words: [u64; 2050] = [0; 2050];

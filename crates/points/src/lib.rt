@@ -1,6 +1,6 @@
 // The control point in force at a time, found in the record's bytes.
 ghost use mathlib.Core.Path.{_≡_};
-ghost use Prim.Native.Nat.{_+_, _*_, _≤_, _<_};
+ghost use Prim.Native.Nat.{_+_, _-_, _*_, _≤_, _<_};
 ghost use lib.Ieee.{le};
 ghost use Rattle.model.specs.ControlPoint.{beatAt, velocityAt, kiaiAt};
 ghost use Rattle.record.specs.Lookup.{times, upTo, Rising};
@@ -75,7 +75,7 @@ pub struct FlagInForce {
 // The beat length in force at the time t, among `count` timing points from bit `at` on: before the first point it is the first's. The points behind the first are counted.
 pub fn timing_point_at(s: &[u8], at: usize, count: usize, t: f64, guess: usize) -> FloatInForce
     requires { ⌜ (at ≤ 100000000) × (count ≤ 4095) × Rising TimingPoints (now s) at count ⌝ }
-    ensures { λ r. ⌜ r .value ≡ beatAt (timingPoints (now (s .entry)) at count) t ⌝ }
+    ensures { λ r. ⌜ (r .value ≡ beatAt (timingPoints (now (s .entry)) at count) t) × (r .passed ≡ upTo t (times TimingPoints (now (s .entry)) (at + 128) (count - 1))) ⌝ }
 {
     if count == 0 {
         return FloatInForce {
@@ -91,7 +91,7 @@ pub fn timing_point_at(s: &[u8], at: usize, count: usize, t: f64, guess: usize) 
 // The slider velocity in force at the time t, among `count` difficulty points from bit `at` on.
 pub fn difficulty_point_at(s: &[u8], at: usize, count: usize, t: f64, guess: usize) -> FloatInForce
     requires { ⌜ (at ≤ 100000000) × (count ≤ 4095) × Rising DifficultyPoints (now s) at count ⌝ }
-    ensures { λ r. ⌜ r .value ≡ velocityAt (difficultyPoints (now (s .entry)) at count) t ⌝ }
+    ensures { λ r. ⌜ (r .value ≡ velocityAt (difficultyPoints (now (s .entry)) at count) t) × (r .passed ≡ upTo t (times DifficultyPoints (now (s .entry)) at count)) ⌝ }
 {
     let passed = points_up_to(Section::DifficultyPoints, s, at, count, t, guess);
     if passed == 0 {
@@ -104,7 +104,7 @@ pub fn difficulty_point_at(s: &[u8], at: usize, count: usize, t: f64, guess: usi
 // Whether kiai is in force at the time t, among `count` effect points from bit `at` on.
 pub fn effect_point_at(s: &[u8], at: usize, count: usize, t: f64, guess: usize) -> FlagInForce
     requires { ⌜ (at ≤ 100000000) × (count ≤ 4095) × Rising EffectPoints (now s) at count ⌝ }
-    ensures { λ r. ⌜ r .value ≡ kiaiAt (effectPoints (now (s .entry)) at count) t ⌝ }
+    ensures { λ r. ⌜ (r .value ≡ kiaiAt (effectPoints (now (s .entry)) at count) t) × (r .passed ≡ upTo t (times EffectPoints (now (s .entry)) at count)) ⌝ }
 {
     let passed = points_up_to(Section::EffectPoints, s, at, count, t, guess);
     if passed == 0 {

@@ -30,7 +30,7 @@ use Rattle.walk.specs.declared.Met.{Met}
 use Rattle.walk.specs.declared.Walk.{Walk}
 use Rattle.walk.specs.declared.Step.{Step}
 use Rattle.walk.specs.Kept.{walkOf, leftBy, after-left}
-use Rattle.walk.specs.Steps.{Sung, Meets, KeepsBy, Finishes, densityAt, factsIn, objectRule, tooLong, Next, Stops, refuses, full, StepsBy, Steps}
+use Rattle.walk.specs.Steps.{OfRecord, Meets, KeepsBy, Finishes, densityAt, factsIn, objectRule, tooLong, Next, Stops, refuses, full, StepsBy, Steps}
 
 pub facts-are : (bytes part : List ℕ) (g : Song) (w : Walk) (at : ℕ) (m : Met) → Meets bytes part g (w .density) at m → m .facts ≡ factsIn bytes g w (m .object)
 facts-are bytes part g w at m h = h .facts ∙ ap (λ (q : Queue.Density). factsAt (songOf bytes) (g .difficulty) q (m .object)) (h .density)
@@ -105,7 +105,7 @@ refused-step bytes part entry g w at d e m n h says =
     (refuses (ap (λ (f : Facts). on (object f (w .prev) (g .columns) (m .object)) d) (sym (facts-are bytes part g w at m h)) ∙ sym says))
 
 -- the facts, from the points in force
-pub facts-of : (bytes : List ℕ) (g : Song) (q : Queue.Density) (o : Object) (beat velocity : Float) (kiai : Bool) → Sung bytes g
+pub facts-of : (bytes : List ℕ) (g : Song) (q : Queue.Density) (o : Object) (beat velocity : Float) (kiai : Bool) → OfRecord bytes g
     → beat ≡ beatAt (timingPoints bytes (g .places .timing) (g .counts .timing)) (o .start)
     → velocity ≡ velocityAt (difficultyPoints bytes (g .places .difficulty) (g .counts .difficulty)) (o .start)
     → kiai ≡ kiaiAt (effectPoints bytes (g .places .effect) (g .counts .effect)) (o .start)

@@ -39,7 +39,7 @@ use Rattle.walk.specs.declared.WalkEnd.the-variants as E
 use Rattle.walk.specs.Kept.{walkOf, leftBy}
 
 -- the struct is of the song of an accepted record
-pub record Sung (bytes : List ℕ) (g : Song) : Type 0 where
+pub record OfRecord (bytes : List ℕ) (g : Song) : Type 0 where
   pub parsed : parse bytes ≡ accepted (songOf bytes)
   pub low : 1 ≤ g .columns
   pub high : g .columns ≤ 9

@@ -12,7 +12,7 @@ ghost use Rattle.mania.specs.PathObject.{spanLength};
 ghost use Rattle.mania.specs.Range.{InRange};
 ghost use Rattle.density.specs.Queued.{Held, queued};
 ghost use Rattle.walk.specs.Kept.{spanIn, walkOf, leftBy};
-ghost use Rattle.walk.specs.Steps.{Sung, Meets, Keeps, Finishes, Sound, Steps, rule, Ends};
+ghost use Rattle.walk.specs.Steps.{OfRecord, Meets, Keeps, Finishes, Sound, Steps, rule, Ends};
 use density::Density;
 use density::compute_density;
 use density::node_time;
@@ -209,7 +209,7 @@ pub struct Found {
 
 // The facts in force at an object; `guess` is of the object before.
 fn facts_at(bytes: &[u8], g: Song, d: Density, o: Object, guess: Passed) -> Found
-    requires { ⌜ Sung (now bytes) g ⌝ }
+    requires { ⌜ OfRecord (now bytes) g ⌝ }
     ensures { λ r. ⌜ r .facts ≡ factsAt (songOf (now (bytes .entry))) (g .difficulty) (queued d) o ⌝ }
 {
     let n = g.counts;
@@ -242,7 +242,7 @@ fn facts_at(bytes: &[u8], g: Song, d: Density, o: Object, guess: Passed) -> Foun
 
 // The object at bit `at` of the part of the record that has the objects.
 fn meet(bytes: &[u8], part: &[u8], g: Song, before: Density, guess: Passed, at: usize) -> Met
-    requires { ⌜ Sung (now bytes) g × Held before × (at ≤ 800000000) ⌝ }
+    requires { ⌜ OfRecord (now bytes) g × Held before × (at ≤ 800000000) ⌝ }
     ensures { λ r. ⌜ Meets (now (bytes .entry)) (now (part .entry)) g before at r ⌝ }
 {
     let read = read_object(part, at);
@@ -336,7 +336,7 @@ fn convert_object(
     at: usize,
     d: Draws,
 ) -> Step
-    requires { ⌜ Sung (now bytes) g × Sound (g .columns) w × InRange (readObject (now part) at) × (at ≤ 800000000) × (w .notes ≤ 16777215) × (2050 ≤ length (now words)) × (2050 ≤ length (now spare)) ⌝ }
+    requires { ⌜ OfRecord (now bytes) g × Sound (g .columns) w × InRange (readObject (now part) at) × (at ≤ 800000000) × (w .notes ≤ 16777215) × (2050 ≤ length (now words)) × (2050 ≤ length (now spare)) ⌝ }
     ensures { λ r. ⌜ Steps (now (bytes .entry)) (now (part .entry)) (now (chart .entry)) (now (chart .exit)) g w at d r ⌝ }
 {
     let before = w.density;
@@ -400,7 +400,7 @@ pub fn walk_objects(
     count: u32,
     d: Draws,
 ) -> WalkEnd
-    requires { ⌜ Sung (now bytes) g × Each InRange (objects (now part) at count) × (at ≤ 7) × (count ≤ 4095) × (8 ≤ length (now chart)) × (2050 ≤ length (now words)) × (2050 ≤ length (now spare)) ⌝ }
+    requires { ⌜ OfRecord (now bytes) g × Each InRange (objects (now part) at count) × (at ≤ 7) × (count ≤ 4095) × (8 ≤ length (now chart)) × (2050 ≤ length (now words)) × (2050 ≤ length (now spare)) ⌝ }
     ensures { λ r. ⌜ Ends (rule (now (bytes .entry)) (now (part .entry)) g (length (now (chart .entry))) at count d) (now (chart .entry)) (now (chart .exit)) r ⌝ }
 {
     let mut w = beginning();

@@ -86,7 +86,7 @@ sub-finish c =
 finish-requires : tie.Need-finish-requires
 finish-requires c κs =
     let k = c .before .before .before in
-    let high = k .before .before .before .before .before .before .before .before .before .song-of .ensures .sung .high in
+    let high = k .before .before .before .before .before .before .before .before .before .song-of .ensures .song .high in
     (omega (arith, high), omega (arith, made k .room))
 
 enum-known-n : tie.Need-enum-known-n

@@ -32,7 +32,7 @@ returns c =
     let bytes = s .args .bytes .now in
     let columns = columns-are bytes (s .args .m) k (c .before .columns-of .result) (c .before .columns-of .ensures) in
     record {
-      sung =
+      song =
           record {
             parsed = k .parsed;
             low = columns .1;

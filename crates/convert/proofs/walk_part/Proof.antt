@@ -37,7 +37,7 @@ walk-objects-requires : tie.Need-walk-objects-requires
 unfolding objects entries
 walk-objects-requires c κs =
     let s = c .before .before .before .before .before .before .before .before .before in
-    (s .pre .1 .sung, tt, omega arith, omega arith, omega (arith, s .pre .2), lit≤ tt, lit≤ tt)
+    (s .pre .1 .song, tt, omega arith, omega arith, omega (arith, s .pre .2), lit≤ tt, lit≤ tt)
 
 same-length : tie.Need-same-length
 same-length c = search needs
@@ -83,7 +83,7 @@ walk-objects-requires-2 c κs =
     let k = s .pre .0 in
     let bytes = s .args .bytes .now in
     let first = s .args .m .places .objects in (
-      s .pre .1 .sung,
+      s .pre .1 .song,
       subst (λ (part : List ℕ). Each InRange (objects part (first % 8) (s .args .m .counts .objects))) (sym (rest-part bytes (first / 8)))
           (subst (Each InRange) (k .objects) (objects-in-range bytes (songOf bytes) (k .parsed))),
       omega arith,
