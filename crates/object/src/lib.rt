@@ -63,7 +63,7 @@ fn generate_circle(
     ensures { λ r. ⌜ Generates (circleAt (o .start)) (now (words .exit)) (on (HitObject.generate (HitObject.new f v columns o)) d) 14 r ⌝ }
 {
     let g = hit_object::new(f, v, columns, o);
-    hit_object::generate(d, g, words)
+    hit_object::generate_owned(d, g, words)
 }
 
 // A slider's notes.
@@ -83,7 +83,7 @@ fn generate_slider(
     ensures { λ r. ⌜ Generates noteOfWord (now (words .exit)) (on (PathObject.generate (PathObject.new f v columns o repeats distance node)) d) 2050 r ⌝ }
 {
     let g = slider_times::new(f, v, columns, o, repeats, distance, node);
-    path_object::generate(d, g, words, spare)
+    path_object::generate_owned(d, g, words, spare)
 }
 
 // By the object's kind, as `convert` goes. The notes stand in `words` in walk order; `spare` is working space.
@@ -107,7 +107,14 @@ pub fn generate(
             distance,
             node,
         } => generate_slider(f, v, columns, o, repeats, distance, node, words, spare, d),
-        Kind::Spinner(duration) => end_time_object::generate(d, v, columns, o, duration, words),
-        Kind::Hold(duration) => end_time_object::generate(d, v, columns, o, duration, words),
+        Kind::Spinner(duration) => end_time_object::generate_owned(
+            d,
+            v,
+            columns,
+            o,
+            duration,
+            words,
+        ),
+        Kind::Hold(duration) => end_time_object::generate_owned(d, v, columns, o, duration, words),
     }
 }

@@ -24,14 +24,14 @@ generate-slider-requires c κs =
 enum-known-kind-2 : tie.Need-enum-known-kind-2
 enum-known-kind-2 c = search needs
 
-generate-requires : tie.Need-generate-requires
-generate-requires c κs = search needs
+generate-owned-requires : tie.Need-generate-owned-requires
+generate-owned-requires c κs = search needs
 
 enum-known-kind-3 : tie.Need-enum-known-kind-3
 enum-known-kind-3 c = search needs
 
-generate-requires-2 : tie.Need-generate-requires-2
-generate-requires-2 c κs = search needs
+generate-owned-requires-2 : tie.Need-generate-owned-requires-2
+generate-owned-requires-2 c κs = search needs
 
 same-length : tie.Need-same-length
 same-length c = search needs
@@ -60,7 +60,7 @@ returns-3 : tie.Need-returns-3
 returns-3 c =
     let s = c .before .before .before .before .before .before .before .before .before in
     let k = c .before .before .before .before .before .kind2 .given in
-    spinner-ends _ _ _ _ _ _ _ (k .0 .0) (s .pre .last) (s .pre .mask) (c .before .before .generate .ensures) (k .1)
+    spinner-ends _ _ _ _ _ _ _ (k .0 .0) (s .pre .last) (s .pre .mask) (c .before .before .generate-owned .ensures) (k .1)
 
 same-length-5 : tie.Need-same-length-5
 same-length-5 c = search needs
@@ -69,7 +69,7 @@ returns-4 : tie.Need-returns-4
 returns-4 c =
     let s = c .before .before .before .before .before .before .before .before .before in
     let k = c .before .before .before .before .before .kind3 .given in
-    hold-ends _ _ _ _ _ _ _ (k .0 .0) (s .pre .last) (s .pre .mask) (c .before .before .generate2 .ensures) (k .1)
+    hold-ends _ _ _ _ _ _ _ (k .0 .0) (s .pre .last) (s .pre .mask) (c .before .before .generate-owned2 .ensures) (k .1)
 
 pub generate-spec : {M : Type 1} → statement M
 generate-spec =
@@ -80,9 +80,9 @@ generate-spec =
     enum-known-kind
     generate-slider-requires
     enum-known-kind-2
-    generate-requires
+    generate-owned-requires
     enum-known-kind-3
-    generate-requires-2
+    generate-owned-requires-2
     same-length
     returns
     same-length-2

@@ -13,9 +13,9 @@ use Rattle.object.proofs.generate_circle.Tie as tie
 new-requires : tie.Need-new-requires
 new-requires c κs = search needs
 
-generate-requires : tie.Need-generate-requires
+generate-owned-requires : tie.Need-generate-owned-requires
 unfolding HitObject.new
-generate-requires c κs = rw (c .before .new .ensures) (omega arith, omega arith, omega arith, omega arith)
+generate-owned-requires c κs = rw (c .before .new .ensures) (omega arith, omega arith, omega arith, omega arith)
 
 same-length : tie.Need-same-length
 same-length c = search needs
@@ -24,7 +24,7 @@ returns : tie.Need-returns
 unfolding HitObject.new
 returns c =
     let a = c .before .before .before .before .before .before .args in
-    subst (λ (g : HitObjectPatternGenerator). Generates (circleAt (g .start)) (c .before .before .generate .last .1 .1 .0) (on (HitObject.generate g) (a .d)) 14 (c .before .before .generate .result)) (c .before .before .before .before .new .ensures) (c .before .before .generate .ensures)
+    subst (λ (g : HitObjectPatternGenerator). Generates (circleAt (g .start)) (c .before .before .generate-owned .last .1 .1 .0) (on (HitObject.generate g) (a .d)) 14 (c .before .before .generate-owned .result)) (c .before .before .before .before .new .ensures) (c .before .before .generate-owned .ensures)
 
 pub generate-circle-spec : {M : Type 1} → statement M
-generate-circle-spec = tie.close (tie.spec new-requires generate-requires same-length returns)
+generate-circle-spec = tie.close (tie.spec new-requires generate-owned-requires same-length returns)
