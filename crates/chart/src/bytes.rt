@@ -24,6 +24,20 @@ pub fn get(s: &[u8], at: usize, size: usize) -> u64
     x
 }
 
+// The number in the 8 bytes from `at`. Written out, so that the compiler makes one load of the eight.
+pub fn get8(s: &[u8], at: usize) -> u64
+    requires { ⌜ at + 8 ≤ length (now s) ⌝ }
+    ensures { λ r. ⌜ r ≡ num 8 (drop at (now (s .entry))) ⌝ }
+{
+    let two = wide(s[at]) * 256 + wide(s[at + 1]);
+    let three = two * 256 + wide(s[at + 2]);
+    let four = three * 256 + wide(s[at + 3]);
+    let five = four * 256 + wide(s[at + 4]);
+    let six = five * 256 + wide(s[at + 5]);
+    let seven = six * 256 + wide(s[at + 6]);
+    seven * 256 + wide(s[at + 7])
+}
+
 // Stores a number in the `size` bytes from `at`. All other bytes keep their values.
 pub fn put(s: &mut [u8], at: usize, size: usize, value: u64)
     requires { ⌜ at + size ≤ length (now s) ⌝ }
@@ -36,6 +50,21 @@ pub fn put(s: &mut [u8], at: usize, size: usize, value: u64)
         s[at + i] = (x % 256) as u8;
         x /= 256;
     }
+}
+
+// Stores a number in the 8 bytes from `at`. All other bytes keep their values. Written out, so that the compiler makes one store of the eight.
+pub fn put8(s: &mut [u8], at: usize, value: u64)
+    requires { ⌜ at + 8 ≤ length (now s) ⌝ }
+    ensures { λ _. ⌜ now (s .exit) ≡ splice (now (s .entry)) at (be 8 value) ⌝ }
+{
+    s[at] = (value / 72057594037927936 % 256) as u8;
+    s[at + 1] = (value / 281474976710656 % 256) as u8;
+    s[at + 2] = (value / 1099511627776 % 256) as u8;
+    s[at + 3] = (value / 4294967296 % 256) as u8;
+    s[at + 4] = (value / 16777216 % 256) as u8;
+    s[at + 5] = (value / 65536 % 256) as u8;
+    s[at + 6] = (value / 256 % 256) as u8;
+    s[at + 7] = (value % 256) as u8;
 }
 
 pub fn zero(s: &mut [u8])

@@ -1,7 +1,7 @@
 // A note in its 17 bytes.
 use crate::Note;
-use crate::bytes::get;
-use crate::bytes::put;
+use crate::bytes::get8;
+use crate::bytes::put8;
 ghost use mathlib.Core.Path.{_≡_};
 ghost use mathlib.Core.Bool.{cond};
 ghost use Prim.Native.Nat.{_+_, _*_, _≤_, _<_};
@@ -18,8 +18,8 @@ pub fn note_at(s: &[u8], at: usize) -> Note
     Note {
         column: first / 16,
         hold: first % 16 >= 8,
-        start: get(s, at + 1, 8),
-        duration: get(s, at + 9, 8),
+        start: get8(s, at + 1),
+        duration: get8(s, at + 9),
     }
 }
 
@@ -37,6 +37,6 @@ pub fn put_note(s: &mut [u8], at: usize, n: Note)
     ensures { λ _. ⌜ now (s .exit) ≡ splice (now (s .entry)) at (noteBytes n) ⌝ }
 {
     s[at] = head(n.column, n.hold);
-    put(s, at + 1, 8, n.start);
-    put(s, at + 9, 8, n.duration);
+    put8(s, at + 1, n.start);
+    put8(s, at + 9, n.duration);
 }

@@ -101,6 +101,14 @@ splice-next s i v j w e h =
     ∙ ap (λ (k : ℕ). drop k s) lengths in
     rw whole (rw (take-at (take i s ++ v) rest j front, tail) (simp append-assoc))
 
+-- the stores of a number's bytes, one by one: y is what stands before the last of the bytes of x
+pub be-next : (s r : List ℕ) (i k j x y : ℕ) → r ≡ splice s i (be k y) → y ≡ x / 256 → j ≡ i + k → j < length s → set r j (x % 256) ≡ splice s i (be (suc k) x)
+unfolding be
+be-next s r i k j x y is high at h =
+    let size : length (be k y) ≡ k = length-be k y in
+    let in-r : j < length (splice s i (be k y)) = rw (length-splice s i (be k y) (omega arith)) h in
+    rw is (splice-one (splice s i (be k y)) j (x % 256) in-r ∙ splice-next s i (be k y) j (x % 256 ∷ []) (omega arith) (omega arith) ∙ rw high)
+
 -- what is behind a run
 pub drop-splice : (s : List ℕ) (i : ℕ) (v : List ℕ) (j : ℕ) → i ≤ length s → i + length v ≤ j → drop j (splice s i v) ≡ drop j s
 unfolding splice

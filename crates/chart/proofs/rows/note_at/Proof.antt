@@ -8,24 +8,24 @@ use Rattle.chart.proofs.rows.note_at.Tie as tie
 shared-slice-read-first : tie.Need-shared-slice-read-first
 shared-slice-read-first c = search needs
 
-add-get : tie.Need-add-get
-add-get c = search needs
+add-get8 : tie.Need-add-get8
+add-get8 c = search needs
 
-get-requires : tie.Need-get-requires
-get-requires c κs = search needs
+get8-requires : tie.Need-get8-requires
+get8-requires c κs = search needs
 
-add-get-2 : tie.Need-add-get-2
-add-get-2 c = search needs
+add-get8-2 : tie.Need-add-get8-2
+add-get8-2 c = search needs
 
-get-requires-2 : tie.Need-get-requires-2
-get-requires-2 c κs = search needs
+get8-requires-2 : tie.Need-get8-requires-2
+get8-requires-2 c κs = search needs
 
 returns : tie.Need-returns
 returns c =
     let start = c .before .before .before .before in
-    note-at (start .args .s .now) (start .args .at) (c .before .get .ensures .0) (c .get2 .ensures .0)
+    note-at (start .args .s .now) (start .args .at) (c .before .get8 .ensures) (c .get82 .ensures)
 
 pub note-at-spec : {M : Type 1} → statement M
 note-at-spec =
     tie.close
-    (tie.spec shared-slice-read-first add-get get-requires add-get-2 get-requires-2 returns)
+    (tie.spec shared-slice-read-first add-get8 get8-requires add-get8-2 get8-requires-2 returns)

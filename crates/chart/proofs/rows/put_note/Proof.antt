@@ -14,30 +14,30 @@ head-requires c κs = search needs
 slice-write-s : tie.Need-slice-write-s
 slice-write-s c = search needs
 
-add-put : tie.Need-add-put
-add-put c = search needs
+add-put8 : tie.Need-add-put8
+add-put8 c = search needs
 
-put-requires : tie.Need-put-requires
-put-requires c κs = simp length-set (omega arith)
+put8-requires : tie.Need-put8-requires
+put8-requires c κs = simp length-set (omega arith)
 
-add-put-2 : tie.Need-add-put-2
-add-put-2 c = search needs
+add-put8-2 : tie.Need-add-put8-2
+add-put8-2 c = search needs
 
-put-requires-2 : tie.Need-put-requires-2
-put-requires-2 c κs =
+put8-requires-2 : tie.Need-put8-requires-2
+put8-requires-2 c κs =
     let put = c .before .before .before in
-    let kept : length (put .put .last .0) ≡ length (put .before .before .before .before .args .s .now) = put .put .kept .0 ∙ simp length-set in
+    let kept : length (put .put8 .last .0) ≡ length (put .before .before .before .before .args .s .now) = put .put8 .kept .0 ∙ simp length-set in
     rw kept (omega arith)
 
 same-length : tie.Need-same-length
-same-length c = c .before .before .put2 .kept .0 ∙ c .before .before .before .before .before .before .put .kept .0 ∙ simp length-set
+same-length c = c .before .before .put82 .kept .0 ∙ c .before .before .before .before .before .before .put8 .kept .0 ∙ simp length-set
 
 returns : tie.Need-returns
 returns c =
     let put = c .before .before .before .before .before .before in
     let start = put .before .before .before .before in
-    c .before .before .put2 .ensures
-    ∙ rw (put .put .ensures) (note-put (start .args .s .now) (start .args .at) (start .args .n) (put .before .before .head .ensures) (start .pre .1))
+    c .before .before .put82 .ensures
+    ∙ rw (put .put8 .ensures) (note-put (start .args .s .now) (start .args .at) (start .args .n) (put .before .before .head .ensures) (start .pre .1))
 
 pub put-note-spec : {M : Type 1} → statement M
 put-note-spec =
@@ -45,9 +45,9 @@ put-note-spec =
     (tie.spec
     head-requires
     slice-write-s
-    add-put
-    put-requires
-    add-put-2
-    put-requires-2
+    add-put8
+    put8-requires
+    add-put8-2
+    put8-requires-2
     same-length
     returns)
