@@ -10,7 +10,7 @@ use native.Mathlib.Numerals.{add-one}
 use native.Mathlib.Omega.{arith}
 use lib.Dec.{leb}
 use lib.ListN.{length, getD, take, drop, set, length-append, length-drop}
-use lib.Seq.{take-at, drop-at, drop-drop, getD-drop, length-take-le}
+use lib.Seq.{take-at, take-add, drop-at, drop-drop, getD-drop, length-take-le}
 use borrow.Author.Tests.{le-leb, lt-leb}
 use Rattle.chart.specs.declared.Note.{Note}
 use Rattle.chart.specs.Bytes.{Bytes, be, num, splice}
@@ -181,6 +181,16 @@ notes-more k s = rw (add-one k) (more k s)
     more (suc k) s =
         let e : 17 + 17 * k ≡ 17 * suc k = omega arith in
         ap (λ (t : List Note). noteOf s ∷ t) (more k (drop 17 s) ∙ rw (drop-drop (17 * k) 17 s, e))
+
+pub holds-more : (s : List ℕ) (i k : ℕ) → i + 17 * k + 17 ≤ length s → Bytes s → getD s (i + 17 * k) 0 % 8 ≡ 0 → Holds s i k → Holds s i (k + 1)
+unfolding Holds
+holds-more s i k l h z holds =
+    let r : List ℕ = drop (i + 17 * k) s in
+    let first : getD r 0 0 % 8 ≡ 0 = rw (getD-drop (i + 17 * k) s 0 0, add-zero (i + 17 * k)) z in
+    let row = row-back r (rw (length-drop (i + 17 * k) s) (omega arith)) (bytes-drop (i + 17 * k) s h) first in
+    let next : take 17 r ≡ noteBytes (noteOf r) = ap (take 17) row ∙ take-at (noteBytes (noteOf r)) (drop 17 r) 17 (length-note (noteOf r)) in
+    let size : 17 * (k + 1) ≡ 17 * k + 17 = omega arith in
+    rw (size, take-add (17 * k) 17 (drop i s), drop-drop (17 * k) i s, notes-more k (drop i s), body-append, body-one, drop-drop (17 * k) i s) (rw (holds, next))
 
 -- the note of an index, and its start
 pub notes-at : (k : ℕ) (s : List ℕ) (i : ℕ) (d : Note) → i < k → getD (notesOf k s) i d ≡ noteOf (drop (17 * i) s)
