@@ -1,7 +1,7 @@
 // Numbers in bytes, the highest byte first.
 ghost use mathlib.Core.Path.{_≡_};
 ghost use Prim.Native.Nat.{_+_, _^_, _≤_, _<_};
-ghost use lib.ListN.{length, drop, replicate};
+ghost use lib.ListN.{length, drop, set, replicate};
 ghost use Rattle.chart.specs.Bytes.{be, num, splice};
 
 fn wide(x: u8) -> u64
@@ -65,6 +65,18 @@ pub fn put8(s: &mut [u8], at: usize, value: u64)
     s[at + 5] = (value / 65536 % 256) as u8;
     s[at + 6] = (value / 256 % 256) as u8;
     s[at + 7] = (value % 256) as u8;
+}
+
+// Stores a byte. The branch parts the stores before it from those behind it: the compiler makes one store of eight bytes only where no other
+// stores stand next to them.
+pub fn put_byte(s: &mut [u8], at: usize, value: u8)
+    requires { ⌜ at < length (now s) ⌝ }
+    ensures { λ _. ⌜ now (s .exit) ≡ set (now (s .entry)) at value ⌝ }
+{
+    if s[at] == value {
+        return;
+    }
+    s[at] = value;
 }
 
 pub fn zero(s: &mut [u8])

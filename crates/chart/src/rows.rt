@@ -1,6 +1,7 @@
 // A note in its 17 bytes.
 use crate::Note;
 use crate::bytes::get8;
+use crate::bytes::put_byte;
 use crate::bytes::put8;
 ghost use mathlib.Core.Path.{_≡_};
 ghost use mathlib.Core.Bool.{cond};
@@ -36,7 +37,17 @@ pub fn put_note(s: &mut [u8], at: usize, n: Note)
     requires { ⌜ (n .column < 16) × (at + 17 ≤ length (now s)) ⌝ }
     ensures { λ _. ⌜ now (s .exit) ≡ splice (now (s .entry)) at (noteBytes n) ⌝ }
 {
-    s[at] = head(n.column, n.hold);
     put8(s, at + 1, n.start);
+    put_byte(s, at, head(n.column, n.hold));
     put8(s, at + 9, n.duration);
+}
+
+// The same, for a note that was read from bytes: with no branch between the stores the compiler moves the 17 bytes as they are.
+pub fn put_row(s: &mut [u8], at: usize, row: Note)
+    requires { ⌜ (row .column < 16) × (at + 17 ≤ length (now s)) ⌝ }
+    ensures { λ _. ⌜ now (s .exit) ≡ splice (now (s .entry)) at (noteBytes row) ⌝ }
+{
+    s[at] = head(row.column, row.hold);
+    put8(s, at + 1, row.start);
+    put8(s, at + 9, row.duration);
 }

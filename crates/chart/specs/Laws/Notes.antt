@@ -15,7 +15,7 @@ use borrow.Author.Tests.{le-leb, lt-leb}
 use Rattle.chart.specs.declared.Note.{Note}
 use Rattle.chart.specs.Bytes.{Bytes, be, num, splice}
 use Rattle.chart.specs.Chart.{noteBytes, body, header, encode, noteOf, notesOf, Holds}
-use Rattle.chart.specs.Laws.Bytes.{length-be, num-be, be-num, num-fits, bytes-drop, splice-one, splice-next}
+use Rattle.chart.specs.Laws.Bytes.{length-be, num-be, be-num, num-fits, bytes-drop, splice-one, splice-before, splice-next}
 use Rattle.chart.specs.Laws.Times.{le-or-lt}
 
 -- ---- lengths and joins
@@ -73,6 +73,15 @@ note-put {h} s i n e l =
     rw (splice-one s i h (omega arith))
     (rw (splice-next s i (h ∷ []) (i + 1) b refl (omega (arith, length-be 8 (n .start))))
     (splice-next s i (h ∷ b) (i + 9) (be 8 (n .duration)) first (omega (arith, length-be 8 (n .duration))) ∙ rw e refl))
+
+pub note-put-mid : {h : ℕ} (s : List ℕ) (i : ℕ) (n : Note) → h ≡ n .column * 16 + cond (n .hold) 8 0 → i + 17 ≤ length s
+    → splice (set (splice s (i + 1) (be 8 (n .start))) i h) (i + 9) (be 8 (n .duration)) ≡ splice s i (noteBytes n)
+unfolding noteBytes
+note-put-mid {h} s i n e l =
+    let b : List ℕ = be 8 (n .start) in
+    let first : i + 9 ≡ i + length (h ∷ b) = omega (arith, length-be 8 (n .start)) in
+    rw (splice-before s i h b (omega (arith, length-be 8 (n .start))))
+    (splice-next s i (h ∷ b) (i + 9) (be 8 (n .duration)) first (omega (arith, length-be 8 (n .duration))) ∙ rw e refl)
 
 pub header-put : (s : List ℕ) (columns count draws : ℕ) → 8 ≤ length s
     → splice (splice (set s 0 (16 + columns)) 1 (be 3 count)) 4 (be 4 draws) ≡ splice s 0 (header columns count draws)

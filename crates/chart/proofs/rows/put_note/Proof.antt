@@ -1,52 +1,48 @@
--- `chart::rows::put_note` meets its contract. The store and the two splices after it are one splice of the note's bytes (`note-put`).
+-- `chart::rows::put_note` meets its contract. The splice, the store in front of it and the splice behind are one splice of the note's bytes (`note-put-mid`).
 -- Assumes nothing.
-use mathlib.Core.Path.{_≡_, _∙_}
-use native.Mathlib.Omega.{arith}
-use lib.ListN.{length, length-set}
-use Rattle.chart.specs.Laws.Notes.{note-put}
+use mathlib.Core.Path.{_∙_}
+use Rattle.chart.specs.Laws.Notes.{note-put-mid}
 use borrow.Author.Needs.{needs}
 use Rattle.chart.proofs.rows.put_note.Statement.{statement}
 use Rattle.chart.proofs.rows.put_note.Tie as tie
-
-head-requires : tie.Need-head-requires
-head-requires c κs = search needs
-
-slice-write-s : tie.Need-slice-write-s
-slice-write-s c = search needs
 
 add-put8 : tie.Need-add-put8
 add-put8 c = search needs
 
 put8-requires : tie.Need-put8-requires
-put8-requires c κs = simp length-set (omega arith)
+put8-requires c κs = search needs
+
+head-requires : tie.Need-head-requires
+head-requires c κs = search needs
+
+put-byte-requires : tie.Need-put-byte-requires
+put-byte-requires c κs = search needs
 
 add-put8-2 : tie.Need-add-put8-2
 add-put8-2 c = search needs
 
 put8-requires-2 : tie.Need-put8-requires-2
-put8-requires-2 c κs =
-    let put = c .before .before .before in
-    let kept : length (put .put8 .last .0) ≡ length (put .before .before .before .before .args .s .now) = put .put8 .kept .0 ∙ simp length-set in
-    rw kept (omega arith)
+put8-requires-2 c κs = search needs
 
 same-length : tie.Need-same-length
-same-length c = c .before .before .put82 .kept .0 ∙ c .before .before .before .before .before .before .put8 .kept .0 ∙ simp length-set
+same-length c = search needs
 
 returns : tie.Need-returns
 returns c =
-    let put = c .before .before .before .before .before .before in
-    let start = put .before .before .before .before in
+    let store = c .before .before .before .before .before .before in
+    let first = store .before .before .before .before .before in
+    let start = first .before .before .before in
     c .before .before .put82 .ensures
-    ∙ rw (put .put8 .ensures) (note-put (start .args .s .now) (start .args .at) (start .args .n) (put .before .before .head .ensures) (start .pre .1))
+    ∙ rw (store .put-byte .ensures, first .put8 .ensures) (note-put-mid (start .args .s .now) (start .args .at) (start .args .n) (store .before .head .ensures) (start .pre .1))
 
 pub put-note-spec : {M : Type 1} → statement M
 put-note-spec =
     tie.close
     (tie.spec
-    head-requires
-    slice-write-s
     add-put8
     put8-requires
+    head-requires
+    put-byte-requires
     add-put8-2
     put8-requires-2
     same-length
