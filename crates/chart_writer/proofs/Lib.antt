@@ -1,3 +1,3 @@
 pub mod Moved
-pub mod Turned
 pub mod Runs
+pub mod Turned

@@ -7,7 +7,6 @@ use Rattle.chart.specs.Bytes.{num}
 use borrow.Author.Needs.{needs}
 use Rattle.chart.proofs.bytes.get8.Statement.{statement}
 use Rattle.chart.proofs.bytes.get8.Tie as tie
-use Rattle.chart.proofs.bytes.wide.Reads as wide-reads
 
 shared-slice-read-wide : tie.Need-shared-slice-read-wide
 shared-slice-read-wide c = search needs
