@@ -93,16 +93,6 @@ module _ (t : Float) (key : ℕ → Float) (w : ℕ) where
     pub late-down : (m : ℕ) → m < n → le (key (p + w * m)) t ≡ false → Late p m n
     late-down m l h j k o = late-at m j (le (key (p + w * j)) t) k o h refl
 
--- a guess is right where the point at it, if any, is after t, and the one before it, if any, is not
-pub guessed : (k : Section) (s : List ℕ) (p n w : ℕ) (t : Float) (g : ℕ) → w ≡ widthOf k → Rising k s p n → g ≤ n
-    → (g < n → le (f64At s (p + w * g)) t ≡ false) → (0 < g → le (f64At s (p + w * (g - 1))) t ≡ true) → g ≡ upTo t (times k s p n)
-guessed k s p n w t g e r l above below =
-    let rises = rising-by k s p n w e r in
-    sym (up-to-is t (f64At s) w g n p l
-    (λ j m. early-up t (f64At s) w p n rises (g - 1) (omega arith) (below (omega arith)) j (omega arith))
-    (λ j m o. late-down t (f64At s) w p n rises g (omega arith) (above (omega arith)) j m o))
-    ∙ ap (upTo t) (times-by k s p n w e)
-
 -- A value that goes from one point to the next as long as they are not after t, as `beatFrom`, `velocityFrom` and `kiaiFrom` do.
 module _ {A B : Type 0} (time : A → Float) (value : A → B) (from : B → List A → Float → B) (entry : ℕ → A) (key : ℕ → Float) (w : ℕ) (t : Float)
     (ends : (b : B) → from b [] t ≡ b) (goes : (b : B) (x : A) (xs : List A) → from b (x ∷ xs) t ≡ (if le (time x) t then from (value x) xs t else b))

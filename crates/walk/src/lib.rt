@@ -35,19 +35,11 @@ use record::header::Counts;
 use record::header::Places;
 use record_object::read_object;
 
-// How many points of each list are not after an object's start; of the timing points, those behind the first. They are guesses for the next object.
-pub struct Passed {
-    pub timing: usize,
-    pub difficulty: usize,
-    pub effect: usize,
-}
-
 // What the walk keeps between objects; `notes` counts the notes so far.
 pub struct Walk {
     pub prev: PrevValues,
     pub density: Density,
     pub notes: u32,
-    pub passed: Passed,
 }
 
 // The length of a slider's span.
@@ -147,7 +139,7 @@ pub fn position_after(o: Object) -> Position
     }
 }
 
-// What the walk keeps after an object that left a mask, a last column and a stair, made `count` notes and passed so many points.
+// What the walk keeps after an object that left a mask, a last column and a stair, and made `count` notes.
 pub fn after_object(
     f: Facts,
     o: Object,
@@ -156,7 +148,6 @@ pub fn after_object(
     last: u8,
     stair: Stair,
     count: u32,
-    passed: Passed,
     w: Walk,
 ) -> Walk
     requires { ⌜ Held met × (w .notes + count < 2 ^ 32) ⌝ }
@@ -177,7 +168,6 @@ pub fn after_object(
         },
         density,
         notes,
-        passed,
     }
 }
 
@@ -198,50 +188,30 @@ pub struct Met {
     pub next: usize,
     pub density: Density,
     pub facts: Facts,
-    pub passed: Passed,
 }
 
-// The facts in force at an object, and the points passed.
-pub struct Found {
-    pub facts: Facts,
-    pub passed: Passed,
-}
-
-// The facts in force at an object; `guess` is of the object before.
-fn facts_at(bytes: &[u8], g: Song, d: Density, o: Object, guess: Passed) -> Found
+// The facts in force at an object.
+fn facts_at(bytes: &[u8], g: Song, d: Density, o: Object) -> Facts
     requires { ⌜ OfRecord (now bytes) g ⌝ }
-    ensures { λ r. ⌜ r .facts ≡ factsAt (songOf (now (bytes .entry))) (g .difficulty) (queued d) o ⌝ }
+    ensures { λ r. ⌜ r ≡ factsAt (songOf (now (bytes .entry))) (g .difficulty) (queued d) o ⌝ }
 {
     let n = g.counts;
     let at = g.places;
-    let beat = timing_point_at(bytes, at.timing, n.timing, o.start, guess.timing);
-    let velocity = difficulty_point_at(
-        bytes,
-        at.difficulty,
-        n.difficulty,
-        o.start,
-        guess.difficulty,
-    );
-    let kiai = effect_point_at(bytes, at.effect, n.effect, o.start, guess.effect);
-    Found {
-        facts: Facts {
-            difficulty: g.difficulty,
-            multiplier: g.multiplier,
-            beat: beat.value,
-            velocity: velocity.value,
-            kiai: kiai.value,
-            density: d.value,
-        },
-        passed: Passed {
-            timing: beat.passed,
-            difficulty: velocity.passed,
-            effect: kiai.passed,
-        },
+    let beat = timing_point_at(bytes, at.timing, n.timing, o.start);
+    let velocity = difficulty_point_at(bytes, at.difficulty, n.difficulty, o.start);
+    let kiai = effect_point_at(bytes, at.effect, n.effect, o.start);
+    Facts {
+        difficulty: g.difficulty,
+        multiplier: g.multiplier,
+        beat,
+        velocity,
+        kiai,
+        density: d.value,
     }
 }
 
 // The object at bit `at` of the part of the record that has the objects.
-fn meet(bytes: &[u8], part: &[u8], g: Song, before: Density, guess: Passed, at: usize) -> Met
+fn meet(bytes: &[u8], part: &[u8], g: Song, before: Density, at: usize) -> Met
     requires { ⌜ OfRecord (now bytes) g × Held before × (at ≤ 800000000) ⌝ }
     ensures { λ r. ⌜ Meets (now (bytes .entry)) (now (part .entry)) g before at r ⌝ }
 {
@@ -249,15 +219,12 @@ fn meet(bytes: &[u8], part: &[u8], g: Song, before: Density, guess: Passed, at: 
     let object = read.object;
     let next = read.next;
     let density = meets(object, before);
-    let found = facts_at(bytes, g, density, object, guess);
-    let facts = found.facts;
-    let passed = found.passed;
+    let facts = facts_at(bytes, g, density, object);
     Met {
         object,
         next,
         density,
         facts,
-        passed,
     }
 }
 
@@ -284,8 +251,7 @@ fn keep(chart: &mut [u8], words: &[u64], m: Met, p: Pattern, stair: Stair, w: Wa
     put_notes(o, words, count, chart, 8 + 17 * before);
     let met = m.density;
     let f = m.facts;
-    let passed = m.passed;
-    let walk = after_object(f, o, met, p.mask, p.last, stair, count as u32, passed, w);
+    let walk = after_object(f, o, met, p.mask, p.last, stair, count as u32, w);
     Kept { fits: true, walk }
 }
 
@@ -340,8 +306,7 @@ fn convert_object(
     ensures { λ r. ⌜ Steps (now (bytes .entry)) (now (part .entry)) (now (chart .entry)) (now (chart .exit)) g w at d r ⌝ }
 {
     let before = w.density;
-    let guess = w.passed;
-    let m = meet(bytes, part, g, before, guess, at);
+    let m = meet(bytes, part, g, before, at);
     let f = m.facts;
     let o = m.object;
     let v = w.prev;
@@ -380,11 +345,6 @@ fn beginning() -> Walk
         },
         density,
         notes: 0,
-        passed: Passed {
-            timing: 0,
-            difficulty: 0,
-            effect: 0,
-        },
     }
 }
 

@@ -1,4 +1,4 @@
--- `points::difficulty_point_at` meets its contract. Assumes nothing.
+-- `record::lookup::difficulty_point_at` meets its contract. Assumes nothing.
 use mathlib.Core.Path.{sym, _∙_}
 use lib.Ieee.{round, size, span, climb, units, odd, ofBits, ofFields}
 use Rattle.points.proofs.Lookups.{velocity-first, velocity-last}
@@ -11,7 +11,7 @@ points-up-to-requires c κs = search needs
 
 returns : tie.Need-returns
 unfolding round size span climb units odd ofBits ofFields
-returns c = let e = c .before .points-up-to .ensures .0 in (sym (velocity-first _ _ _ _ _ e (c .if1 .taken)), e)
+returns c = sym (velocity-first _ _ _ _ _ (c .before .points-up-to .ensures .0) (c .if1 .taken))
 
 sub-f64-at : tie.Need-sub-f64-at
 sub-f64-at c = search needs
@@ -29,7 +29,7 @@ f64-at-requires : tie.Need-f64-at-requires
 f64-at-requires c κs = search needs
 
 returns-2 : tie.Need-returns-2
-returns-2 c = let e = c .before .before .points-up-to .ensures .0 in (c .f64-at .ensures ∙ sym (velocity-last _ _ _ _ _ e (c .before .if1 .left)), e)
+returns-2 c = c .f64-at .ensures ∙ sym (velocity-last _ _ _ _ _ (c .before .before .points-up-to .ensures .0) (c .before .if1 .left))
 
 pub difficulty-point-at-spec : {M : Type 1} → statement M
 difficulty-point-at-spec =

@@ -1,4 +1,4 @@
--- `points::effect_point_at` meets its contract. Assumes nothing.
+-- `record::lookup::effect_point_at` meets its contract. Assumes nothing.
 use mathlib.Core.Path.{sym, ap, _∙_}
 use Prim.Native.Nat.{ℕ}
 use lib.Dec.{eqb}
@@ -11,7 +11,7 @@ points-up-to-requires : tie.Need-points-up-to-requires
 points-up-to-requires c κs = search needs
 
 returns : tie.Need-returns
-returns c = let e = c .before .points-up-to .ensures .0 in (sym (kiai-first _ _ _ _ _ e (c .if1 .taken)), e)
+returns c = sym (kiai-first _ _ _ _ _ (c .before .points-up-to .ensures .0) (c .if1 .taken))
 
 sub-read-flag : tie.Need-sub-read-flag
 sub-read-flag c = search needs
@@ -29,7 +29,7 @@ read-flag-requires : tie.Need-read-flag-requires
 read-flag-requires c κs = search needs
 
 returns-2 : tie.Need-returns-2
-returns-2 c = let e = c .before .before .points-up-to .ensures .0 in (ap (λ (k : ℕ). eqb k 1) (c .read-flag .ensures .0) ∙ sym (kiai-last _ _ _ _ _ e (c .before .if1 .left)), e)
+returns-2 c = ap (λ (k : ℕ). eqb k 1) (c .read-flag .ensures .0) ∙ sym (kiai-last _ _ _ _ _ (c .before .before .points-up-to .ensures .0) (c .before .if1 .left))
 
 pub effect-point-at-spec : {M : Type 1} → statement M
 effect-point-at-spec =

@@ -1,9 +1,8 @@
--- `points::timing_point_at` meets its contract. Assumes nothing.
+-- `record::lookup::timing_point_at` meets its contract. Assumes nothing.
 use Prim.Native.Nat.{_<_}
 use native.Mathlib.Omega.{arith}
 use lib.Ieee.{round, size, span, climb, units, odd, ofBits, ofFields}
 use Rattle.model.specs.ControlPoint.{beatAt}
-use Rattle.record.specs.Lookup.{times, upTo}
 use Rattle.record.specs.Refusal.{entries}
 use Rattle.record.specs.Section.{timingPoints}
 use Rattle.points.proofs.Lookups.{rising-rest, beat-at}
@@ -12,8 +11,8 @@ use Rattle.points.proofs.timing_point_at.Statement.{statement}
 use Rattle.points.proofs.timing_point_at.Tie as tie
 
 returns : tie.Need-returns
-unfolding beatAt timingPoints times upTo entries round size span climb units odd ofBits ofFields
-returns c = (rw (c .if1 .taken), rw (c .if1 .taken))
+unfolding beatAt timingPoints entries round size span climb units odd ofBits ofFields
+returns c = rw (c .if1 .taken)
 
 add-points-up-to : tie.Need-add-points-up-to
 add-points-up-to c = search needs
@@ -39,7 +38,7 @@ f64-at-requires c κs = search needs
 returns-2 : tie.Need-returns-2
 returns-2 c =
     let some : 0 < c .before .before .before .before .args .count = omega arith in
-    (rw (beat-at _ _ _ _ some, ← (c .before .points-up-to .ensures .0), c .f64-at .ensures), c .before .points-up-to .ensures .0)
+    rw (beat-at _ _ _ _ some, ← (c .before .points-up-to .ensures .0), c .f64-at .ensures)
 
 pub timing-point-at-spec : {M : Type 1} → statement M
 timing-point-at-spec =

@@ -18,7 +18,7 @@ meet-requires c κs = search needs
 
 generate-requires : tie.Need-generate-requires
 generate-requires c κs =
-    let s = c .before .before .before .before .before .before .before .before .before .before .before .before .before in
+    let s = c .before .before .before .before .before .before .before .before .before .before .before .before in
     let m = c .before .before .before .before .before .meet in
     record {
       low = s .pre .0 .low;
@@ -34,13 +34,13 @@ enum-known-p : tie.Need-enum-known-p
 enum-known-p c = search needs
 
 -- what was made lies on the deck
-deck : (c : tie.After-known-told) → OnDeck (c .before .before .before .before .before .before .before .before .before .before .before .before .before .before .before .before .before .before .before .before .before .args .g .columns) (c .before .before .before .before .before .before .before .generate .result)
+deck : (c : tie.After-known-told) → OnDeck (c .before .before .before .before .before .before .before .before .before .before .before .before .before .before .before .before .before .before .before .before .args .g .columns) (c .before .before .before .before .before .before .before .generate .result)
 deck c = c .before .before .before .before .before .before .before .generate .ensures .deck
 
 finish-requires : tie.Need-finish-requires
 finish-requires c κs =
     let k = c .before .before in
-    let s = k .before .before .before .before .before .before .before .before .before .before .before .before .before .before .before .before .before .before .before .before .before in
+    let s = k .before .before .before .before .before .before .before .before .before .before .before .before .before .before .before .before .before .before .before .before in
     let on-deck = subst (OnDeck (s .args .g .columns)) (k .before .p .given .1) (deck k) in
     (k .before .before .before .before .before .before .before .before .before .before .before .before .before .meet .ensures .held, on-deck .0, omega (arith, s .pre .5), s .pre .4)
 
@@ -59,7 +59,7 @@ same-length-3 c = search needs
 returns : tie.Need-returns
 returns c =
     let k = c .before .before .before .before .before in
-    let s = k .before .before .before .before .before .before .before .before .before .before .before .before .before .before .before .before .before .before .before .before .before in
+    let s = k .before .before .before .before .before .before .before .before .before .before .before .before .before .before .before .before .before .before .before .before in
     let m = k .before .before .before .before .before .before .before .before .before .before .before .before .before .meet in
     let n = k .before .before .before .before .before .before .before .generate in
     let v = k .before .p .given in
@@ -77,7 +77,7 @@ same-length-5 c = search needs
 
 returns-2 : tie.Need-returns-2
 returns-2 c =
-    let s = c .before .before .before .before .before .before .before .before .before .before .before .before .before .before .before .before .before .before .before .before .before in
+    let s = c .before .before .before .before .before .before .before .before .before .before .before .before .before .before .before .before .before .before .before .before in
     let m = c .before .before .before .before .before .before .before .before .before .before .before .before .before .meet in
     let n = c .before .before .before .before .before .before .before .generate in
     let v = c .before .n .given in

@@ -18,7 +18,7 @@ returns : tie.Need-returns
 unfolding queued
 returns c =
     let s = c .before .before .before .before .before .before in
-    facts-of (s .args .bytes .now) (s .args .g) (queued (s .args .d)) (s .args .o) _ _ _ (s .pre) (c .before .before .timing-point-at .ensures .0) (c .before .difficulty-point-at .ensures .0) (c .effect-point-at .ensures .0)
+    facts-of (s .args .bytes .now) (s .args .g) (queued (s .args .d)) (s .args .o) _ _ _ (s .pre) (c .before .before .timing-point-at .ensures) (c .before .difficulty-point-at .ensures) (c .effect-point-at .ensures)
 
 pub facts-at-spec : {M : Type 1} → statement M
 facts-at-spec =

@@ -18,15 +18,14 @@ facts-at-requires c κs = search needs
 returns : tie.Need-returns
 unfolding readAt
 returns c =
-    let k = c .before .before in
-    let r = k .before .before .before .read-object in
+    let r = c .before .before .before .read-object in
     record {
       object = ap (λ (x : ReadObject). x .object) (r .ensures .0);
       next = ap (λ (x : ReadObject). x .next) (r .ensures .0);
       far = r .ensures .1;
-      held = k .before .meets .ensures .0;
-      density = k .before .meets .ensures .1;
-      facts = k .facts-at .ensures;
+      held = c .before .meets .ensures .0;
+      density = c .before .meets .ensures .1;
+      facts = c .facts-at .ensures;
     }
 
 pub meet-spec : {M : Type 1} → statement M
