@@ -24,18 +24,20 @@ pub fn get(s: &[u8], at: usize, size: usize) -> u64
     x
 }
 
-// The number in the 8 bytes from `at`. Written out, so that the compiler makes one load of the eight.
+// The number in the 8 bytes from `at`. Written out and in two halves, so that the compiler makes one load of the eight.
 pub fn get8(s: &[u8], at: usize) -> u64
     requires { ⌜ at + 8 ≤ length (now s) ⌝ }
     ensures { λ r. ⌜ r ≡ num 8 (drop at (now (s .entry))) ⌝ }
 {
-    let two = wide(s[at]) * 256 + wide(s[at + 1]);
-    let three = two * 256 + wide(s[at + 2]);
-    let four = three * 256 + wide(s[at + 3]);
-    let five = four * 256 + wide(s[at + 4]);
-    let six = five * 256 + wide(s[at + 5]);
-    let seven = six * 256 + wide(s[at + 6]);
-    seven * 256 + wide(s[at + 7])
+    let high = wide(s[at]) * 16777216
+        + wide(s[at + 1]) * 65536
+        + wide(s[at + 2]) * 256
+        + wide(s[at + 3]);
+    let low = wide(s[at + 4]) * 16777216
+        + wide(s[at + 5]) * 65536
+        + wide(s[at + 6]) * 256
+        + wide(s[at + 7]);
+    high * 4294967296 + low
 }
 
 // Stores a number in the `size` bytes from `at`. All other bytes keep their values.

@@ -14,8 +14,8 @@ shared-slice-read-wide c = search needs
 wide-requires : tie.Need-wide-requires
 wide-requires c κs = search needs
 
-mul-two : tie.Need-mul-two
-mul-two c = search needs
+mul-high : tie.Need-mul-high
+mul-high c = search needs
 
 add-wide : tie.Need-add-wide
 add-wide c = search needs
@@ -26,11 +26,11 @@ shared-slice-read-wide-2 c = search needs
 wide-requires-2 : tie.Need-wide-requires-2
 wide-requires-2 c κs = search needs
 
-add-two : tie.Need-add-two
-add-two c = search needs
+mul-high-2 : tie.Need-mul-high-2
+mul-high-2 c = search needs
 
-mul-three : tie.Need-mul-three
-mul-three c = search needs
+add-high : tie.Need-add-high
+add-high c = search needs
 
 add-wide-2 : tie.Need-add-wide-2
 add-wide-2 c = search needs
@@ -41,11 +41,11 @@ shared-slice-read-wide-3 c = search needs
 wide-requires-3 : tie.Need-wide-requires-3
 wide-requires-3 c κs = search needs
 
-add-three : tie.Need-add-three
-add-three c = search needs
+mul-high-3 : tie.Need-mul-high-3
+mul-high-3 c = search needs
 
-mul-four : tie.Need-mul-four
-mul-four c = search needs
+add-high-2 : tie.Need-add-high-2
+add-high-2 c = search needs
 
 add-wide-3 : tie.Need-add-wide-3
 add-wide-3 c = search needs
@@ -56,11 +56,8 @@ shared-slice-read-wide-4 c = search needs
 wide-requires-4 : tie.Need-wide-requires-4
 wide-requires-4 c κs = search needs
 
-add-four : tie.Need-add-four
-add-four c = search needs
-
-mul-five : tie.Need-mul-five
-mul-five c = search needs
+add-high-3 : tie.Need-add-high-3
+add-high-3 c = search needs
 
 add-wide-4 : tie.Need-add-wide-4
 add-wide-4 c = search needs
@@ -71,11 +68,8 @@ shared-slice-read-wide-5 c = search needs
 wide-requires-5 : tie.Need-wide-requires-5
 wide-requires-5 c κs = search needs
 
-add-five : tie.Need-add-five
-add-five c = search needs
-
-mul-six : tie.Need-mul-six
-mul-six c = search needs
+mul-low : tie.Need-mul-low
+mul-low c = search needs
 
 add-wide-5 : tie.Need-add-wide-5
 add-wide-5 c = search needs
@@ -86,11 +80,11 @@ shared-slice-read-wide-6 c = search needs
 wide-requires-6 : tie.Need-wide-requires-6
 wide-requires-6 c κs = search needs
 
-add-six : tie.Need-add-six
-add-six c = search needs
+mul-low-2 : tie.Need-mul-low-2
+mul-low-2 c = search needs
 
-mul-seven : tie.Need-mul-seven
-mul-seven c = search needs
+add-low : tie.Need-add-low
+add-low c = search needs
 
 add-wide-6 : tie.Need-add-wide-6
 add-wide-6 c = search needs
@@ -101,11 +95,11 @@ shared-slice-read-wide-7 c = search needs
 wide-requires-7 : tie.Need-wide-requires-7
 wide-requires-7 c κs = search needs
 
-add-seven : tie.Need-add-seven
-add-seven c = search needs
+mul-low-3 : tie.Need-mul-low-3
+mul-low-3 c = search needs
 
-mul-result : tie.Need-mul-result
-mul-result c = search needs
+add-low-2 : tie.Need-add-low-2
+add-low-2 c = search needs
 
 add-wide-7 : tie.Need-add-wide-7
 add-wide-7 c = search needs
@@ -115,6 +109,12 @@ shared-slice-read-wide-8 c = search needs
 
 wide-requires-8 : tie.Need-wide-requires-8
 wide-requires-8 c κs = search needs
+
+add-low-3 : tie.Need-add-low-3
+add-low-3 c = search needs
+
+mul-result : tie.Need-mul-result
+mul-result c = search needs
 
 add-result : tie.Need-add-result
 add-result c = search needs
@@ -129,39 +129,39 @@ get8-spec =
     (tie.spec
     shared-slice-read-wide
     wide-requires
-    mul-two
+    mul-high
     add-wide
     shared-slice-read-wide-2
     wide-requires-2
-    add-two
-    mul-three
+    mul-high-2
+    add-high
     add-wide-2
     shared-slice-read-wide-3
     wide-requires-3
-    add-three
-    mul-four
+    mul-high-3
+    add-high-2
     add-wide-3
     shared-slice-read-wide-4
     wide-requires-4
-    add-four
-    mul-five
+    add-high-3
     add-wide-4
     shared-slice-read-wide-5
     wide-requires-5
-    add-five
-    mul-six
+    mul-low
     add-wide-5
     shared-slice-read-wide-6
     wide-requires-6
-    add-six
-    mul-seven
+    mul-low-2
+    add-low
     add-wide-6
     shared-slice-read-wide-7
     wide-requires-7
-    add-seven
-    mul-result
+    mul-low-3
+    add-low-2
     add-wide-7
     shared-slice-read-wide-8
     wide-requires-8
+    add-low-3
+    mul-result
     add-result
     returns)
