@@ -10,6 +10,9 @@ use crate::time::Plan;
 /// So much more than n log² n is taken for the same: for lower terms, caches and measuring.
 const MARGIN: f64 = 1.25;
 
+/// A part of a job below this share of it is lost in the noise, since it is found as a difference.
+const SMALL: f64 = 0.05;
+
 /// Times by size, rising, and whether each stays within n log² n of the one before and of the first.
 struct Series {
     points: Vec<(f64, f64)>,
@@ -98,7 +101,7 @@ fn order(plan: Plan, sizes: &[(&str, Song)]) -> [String; 2] {
         let [mine, theirs, ordering] = job.measure_order(plan);
         let notes = f64::from(job.notes);
         let [factor, allowed] = ours.add(notes, mine);
-        let [part_factor, _] = part.add(notes, ordering);
+        let [part_factor, _] = if ordering < SMALL * mine { [String::new(), String::new()] } else { part.add(notes, ordering) };
         let [their_factor, _] = rust.add(notes, theirs);
         row(&[
             name.to_string(),
@@ -115,6 +118,8 @@ fn order(plan: Plan, sizes: &[(&str, Song)]) -> [String; 2] {
         ]);
     }
     let name = sizes[0].0;
+    let alone = format!("notes {name}, the order alone");
+    let said = if part.points.is_empty() { format!("- {alone}: under {SMALL} of the job") } else { part.say(&alone) };
 
-    [ours.say(&format!("notes {name}, the whole job")), part.say(&format!("notes {name}, the order alone"))]
+    [ours.say(&format!("notes {name}, the whole job")), said]
 }
