@@ -3,7 +3,7 @@
 --       fn lend(mut random: Random, ask: Ask, words: &mut [u64]) -> Turn { let end = generate(&mut random, ask, words); Turn { random, end } }
 --     by-value, by-value-clauses    the contract of `take_turn`, and of `lend`
 --     lent, lent-clauses            the contract of `generate`
--- Assumes nothing: these are definitions.
+-- Assumes nothing; `typed-ask` takes `Given`.
 use Prim.Native.Nat.{ℕ}
 use mathlib.Core.Path.{_≡_, refl, sym, subst}
 use mathlib.Core.List.{List, [], _∷_}
