@@ -9,19 +9,15 @@ ghost use Rattle.mania.specs.PatternType.{contains, reverse, forceStack};
 ghost use Rattle.mania.specs.HitObject as Rule;
 ghost use Rattle.pattern.specs.Answers.{placed, AtMost, Generates};
 ghost use Rattle.circle_notes.specs.Answers.{circleAt};
-ghost use Rattle.hit_object.specs.Answers.{Asks, Ends};
 ghost use Rattle.hit_object.specs.Parts.{generateFree, generateStair};
 use mania::Facts;
 use mania::HitObjectPatternGenerator;
 use mania::PrevValues;
 use mania::Stair;
 use model::Object;
-use pattern::LentEnd;
 use pattern::ObjectEnd;
 use pattern::Placed;
-use pattern::Turn;
 use random::Draws;
-use random::Random;
 
 pub fn new(f: Facts, v: PrevValues, columns: u8, o: Object) -> HitObjectPatternGenerator
     ensures { λ r. ⌜ r ≡ Rule.new f v columns o ⌝ }
@@ -212,7 +208,7 @@ fn stair_after(g: HitObjectPatternGenerator, count: usize, words: &[u64]) -> Sta
     s
 }
 
-fn generate_by_value(d: Draws, g: HitObjectPatternGenerator, words: &mut [u64]) -> ObjectEnd
+pub fn generate_by_value(d: Draws, g: HitObjectPatternGenerator, words: &mut [u64]) -> ObjectEnd
     requires { ⌜ (0 < g .columns) × (g .columns ≤ 9) × (g .last < g .columns) × (16 ≤ length (now words)) ⌝ }
     ensures { λ r. ⌜ Generates (circleAt (g .start)) (now (words .exit)) (on (Rule.generate g) d) 14 r ⌝ }
 {
@@ -224,56 +220,4 @@ fn generate_by_value(d: Draws, g: HitObjectPatternGenerator, words: &mut [u64]) 
         }
         Placed::Refused(x, next) => ObjectEnd::Refused(x, next),
     }
-}
-
-// ---- the state lent
-
-// What the generator is asked: how many draws are left, and what the pattern is made from.
-pub struct Ask {
-    pub left: u32,
-    pub g: HitObjectPatternGenerator,
-}
-
-// The state and the answer apart.
-fn take_turn(random: Random, ask: Ask, words: &mut [u64]) -> Turn
-    requires { ⌜ Asks ask (length (now words)) ⌝ }
-    ensures { λ r. ⌜ Ends random ask (now (words .exit)) (r .random) (r .end) ⌝ }
-{
-    let d = Draws {
-        random,
-        left: ask.left,
-    };
-    let g = ask.g;
-    let end = generate_by_value(d, g, words);
-    pattern::turn_of(end)
-}
-
-// The state is lent, and altered there.
-pub fn generate(random: &mut Random, ask: Ask, words: &mut [u64]) -> LentEnd
-    requires { ⌜ Asks ask (length (now words)) ⌝ }
-    ensures { λ r. ⌜ Ends (now (random .entry)) ask (now (words .exit)) (now (random .exit)) r ⌝ }
-{
-    let t = take_turn(*random, ask, words);
-    *random = t.random;
-    t.end
-}
-
-// Lends its state to `generate`.
-fn lend(mut random: Random, ask: Ask, words: &mut [u64]) -> Turn
-    requires { ⌜ Asks ask (length (now words)) ⌝ }
-    ensures { λ r. ⌜ Ends random ask (now (words .exit)) (r .random) (r .end) ⌝ }
-{
-    let end = generate(&mut random, ask, words);
-    Turn { random, end }
-}
-
-// For whoever owns the state: it is lent to `generate`.
-pub fn generate_owned(d: Draws, g: HitObjectPatternGenerator, words: &mut [u64]) -> ObjectEnd
-    requires { ⌜ (0 < g .columns) × (g .columns ≤ 9) × (g .last < g .columns) × (16 ≤ length (now words)) ⌝ }
-    ensures { λ r. ⌜ Generates (circleAt (g .start)) (now (words .exit)) (on (Rule.generate g) d) 14 r ⌝ }
-{
-    let ask = Ask { left: d.left, g };
-    let random = d.random;
-    let t = lend(random, ask, words);
-    pattern::object_end(t)
 }

@@ -57,13 +57,14 @@ fn generate_circle(
     columns: u8,
     o: Object,
     words: &mut [u64],
+    spare: &mut [u64],
     d: Draws,
 ) -> ObjectEnd
     requires { ⌜ (1 ≤ columns) × (columns ≤ 9) × (v .last < columns) × (2050 ≤ length (now words)) ⌝ }
     ensures { λ r. ⌜ Generates (circleAt (o .start)) (now (words .exit)) (on (HitObject.generate (HitObject.new f v columns o)) d) 14 r ⌝ }
 {
     let g = hit_object::new(f, v, columns, o);
-    hit_object::generate_owned(d, g, words)
+    generators::circle::generate_owned(d, g, words, spare)
 }
 
 // A slider's notes.
@@ -83,7 +84,7 @@ fn generate_slider(
     ensures { λ r. ⌜ Generates noteOfWord (now (words .exit)) (on (PathObject.generate (PathObject.new f v columns o repeats distance node)) d) 2050 r ⌝ }
 {
     let g = slider_times::new(f, v, columns, o, repeats, distance, node);
-    path_object::generate_owned(d, g, words, spare)
+    generators::slider::generate_owned(d, g, words, spare)
 }
 
 // By the object's kind, as `convert` goes. The notes stand in `words` in walk order; `spare` is working space.
@@ -101,20 +102,29 @@ pub fn generate(
 {
     let kind = o.kind;
     match kind {
-        Kind::Circle => generate_circle(f, v, columns, o, words, d),
+        Kind::Circle => generate_circle(f, v, columns, o, words, spare, d),
         Kind::Slider {
             repeats,
             distance,
             node,
         } => generate_slider(f, v, columns, o, repeats, distance, node, words, spare, d),
-        Kind::Spinner(duration) => end_time_object::generate_owned(
+        Kind::Spinner(duration) => generators::spinner::generate_owned(
             d,
             v,
             columns,
             o,
             duration,
             words,
+            spare,
         ),
-        Kind::Hold(duration) => end_time_object::generate_owned(d, v, columns, o, duration, words),
+        Kind::Hold(duration) => generators::spinner::generate_owned(
+            d,
+            v,
+            columns,
+            o,
+            duration,
+            words,
+            spare,
+        ),
     }
 }

@@ -14,16 +14,12 @@ ghost use Rattle.pattern.specs.Answers.{Generates};
 ghost use Rattle.slider_notes.specs.Words.{noteOfWord};
 ghost use Rattle.slider_notes.specs.Answers.{Places};
 ghost use Rattle.slider_patterns.specs.Parts.{Fits};
-ghost use Rattle.path_object.specs.Answers.{Asks, Ends};
 ghost use Rattle.path_object.specs.Parts.{Ready, longSpans};
 use mania::PathObjectPatternGenerator;
-use pattern::LentEnd;
 use pattern::ObjectEnd;
 use pattern::Pattern;
 use pattern::Placed;
-use pattern::Turn;
 use random::Draws;
-use random::Random;
 use slider_times::Chance;
 
 // The latest end of a slider.
@@ -163,7 +159,7 @@ pub fn generate_core(d: Draws, g: PathObjectPatternGenerator, words: &mut [u64])
 }
 
 // `generate`. The notes stand in `words` in walk order; `spare` is working space.
-fn generate_by_value(
+pub fn generate_by_value(
     d: Draws,
     g: PathObjectPatternGenerator,
     words: &mut [u64],
@@ -184,61 +180,4 @@ fn generate_by_value(
         }
         Placed::Refused(x, next) => ObjectEnd::Refused(x, next),
     }
-}
-
-// ---- the state lent
-
-// What the generator is asked: how many draws are left, and what the patterns are made from.
-pub struct Ask {
-    pub left: u32,
-    pub g: PathObjectPatternGenerator,
-}
-
-// The state and the answer apart.
-fn take_turn(random: Random, ask: Ask, words: &mut [u64], spare: &mut [u64]) -> Turn
-    requires { ⌜ Asks ask (length (now words)) (length (now spare)) ⌝ }
-    ensures { λ r. ⌜ Ends random ask (now (words .exit)) (r .random) (r .end) ⌝ }
-{
-    let d = Draws {
-        random,
-        left: ask.left,
-    };
-    let g = ask.g;
-    let end = generate_by_value(d, g, words, spare);
-    pattern::turn_of(end)
-}
-
-// The state is lent, and altered there.
-pub fn generate(random: &mut Random, ask: Ask, words: &mut [u64], spare: &mut [u64]) -> LentEnd
-    requires { ⌜ Asks ask (length (now words)) (length (now spare)) ⌝ }
-    ensures { λ r. ⌜ Ends (now (random .entry)) ask (now (words .exit)) (now (random .exit)) r ⌝ }
-{
-    let t = take_turn(*random, ask, words, spare);
-    *random = t.random;
-    t.end
-}
-
-// Lends its state to `generate`.
-fn lend(mut random: Random, ask: Ask, words: &mut [u64], spare: &mut [u64]) -> Turn
-    requires { ⌜ Asks ask (length (now words)) (length (now spare)) ⌝ }
-    ensures { λ r. ⌜ Ends random ask (now (words .exit)) (r .random) (r .end) ⌝ }
-{
-    let end = generate(&mut random, ask, words, spare);
-    Turn { random, end }
-}
-
-// For whoever owns the state: it is lent to `generate`.
-pub fn generate_owned(
-    d: Draws,
-    g: PathObjectPatternGenerator,
-    words: &mut [u64],
-    spare: &mut [u64],
-) -> ObjectEnd
-    requires { ⌜ Ready g (length (now spare)) × (2050 ≤ length (now words)) ⌝ }
-    ensures { λ r. ⌜ Generates noteOfWord (now (words .exit)) (on (Path.generate g) d) 2050 r ⌝ }
-{
-    let ask = Ask { left: d.left, g };
-    let random = d.random;
-    let t = lend(random, ask, words, spare);
-    pattern::object_end(t)
 }

@@ -5,7 +5,6 @@ use Prim.Native.Nat.{ℕ, _≤_}
 use mathlib.Core.List.{List, map}
 use lib.ListN.{take}
 use Rattle.random.specs.Play.{Answer, found, refused}
-use Rattle.random.specs.declared.Random.{Random}
 use Rattle.mania.specs.declared.Note.{Note}
 use Rattle.mania.specs.declared.Stair.{Stair}
 use Rattle.mania.specs.Made.{Made}
@@ -17,8 +16,6 @@ use Rattle.pattern.specs.declared.Placed.{Placed}
 use Rattle.pattern.specs.declared.Placed.the-variants as P
 use Rattle.pattern.specs.declared.ObjectEnd.{ObjectEnd}
 use Rattle.pattern.specs.declared.ObjectEnd.the-variants as E
-use Rattle.pattern.specs.declared.LentEnd.{LentEnd}
-use Rattle.pattern.specs.declared.LentEnd.the-variants as L
 
 abbrev pub number : Number → Answer ℕ ℕ
 number (N.Given n d) = found n d
@@ -54,8 +51,3 @@ noted (E.Refused x d) = 0
 pub record Generates (read : ℕ → Note) (exit : List ℕ) (answer : Answer ℕ Made) (most : ℕ) (r : ObjectEnd) : Type 0 where
   pub says : objectEnd read exit r ≡ answer
   pub few : noted r ≤ most
-
--- what a generator gives of a lent state, with the state that it left
-abbrev pub whole : Random → LentEnd → ObjectEnd
-whole r (L.Made p s n) = E.Made p s (record { random = r; left = n })
-whole r (L.Refused x n) = E.Refused x (record { random = r; left = n })

@@ -10,13 +10,12 @@ ghost use Rattle.mania.specs.PatternType.{contains};
 ghost use Rattle.mania.specs.Pattern.{free, anyFree};
 ghost use Rattle.mania.specs.ManiaObject as ManiaObject;
 ghost use Rattle.mania.specs.PatternGenerator.{randomStart, getColumn, noteCount, getRandomNoteCount, getRandomColumn, nextColumn, stepTo, drawTo, searchOn, findAvailableColumn};
-ghost use Rattle.pattern.specs.Answers.{number, whole};
+ghost use Rattle.pattern.specs.Answers.{number};
 use floats::Way;
 use mania::Next;
 use mania::Stair;
 use random::Drawn;
 use random::Draws;
-use random::Random;
 
 // What a rule that ends in a number gives: that number, or the number of a refusal, and the draws after it.
 pub enum Number {
@@ -42,54 +41,6 @@ pub enum Placed {
 pub enum ObjectEnd {
     Made(Pattern, Stair, Draws),
     Refused(u8, Draws),
-}
-
-// The same where the state is lent, and altered there: of the draws after it only how many are left.
-pub enum LentEnd {
-    Made(Pattern, Stair, u32),
-    Refused(u8, u32),
-}
-
-// The state that a generator left, and what it gives.
-pub struct Turn {
-    pub random: Random,
-    pub end: LentEnd,
-}
-
-// The state is taken out of what a generator gives.
-pub fn turn_of(e: ObjectEnd) -> Turn
-    ensures { λ r. ⌜ whole (r .random) (r .end) ≡ e ⌝ }
-{
-    match e {
-        ObjectEnd::Made(p, s, d) => {
-            let random = d.random;
-            let left = d.left;
-            Turn {
-                random,
-                end: LentEnd::Made(p, s, left),
-            }
-        }
-        ObjectEnd::Refused(n, d) => {
-            let random = d.random;
-            let left = d.left;
-            Turn {
-                random,
-                end: LentEnd::Refused(n, left),
-            }
-        }
-    }
-}
-
-// The state is put back.
-pub fn object_end(t: Turn) -> ObjectEnd
-    ensures { λ r. ⌜ r ≡ whole (t .random) (t .end) ⌝ }
-{
-    let random = t.random;
-    let end = t.end;
-    match end {
-        LentEnd::Made(p, s, left) => ObjectEnd::Made(p, s, Draws { random, left }),
-        LentEnd::Refused(n, left) => ObjectEnd::Refused(n, Draws { random, left }),
-    }
 }
 
 // ---- the bits of a convert type and of a sound

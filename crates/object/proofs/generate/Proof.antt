@@ -36,16 +36,19 @@ generate-owned-requires-2 c κs = search needs
 same-length : tie.Need-same-length
 same-length c = search needs
 
-returns : tie.Need-returns
-returns c =
-    let s = c .before .before .before .before .before .before .before .before in
-    circle-ends _ _ _ _ _ _ _ (c .before .before .before .before .enum-told .given .1) (s .pre .low) (c .before .before .generate-circle .ensures)
-
 same-length-2 : tie.Need-same-length-2
 same-length-2 c = search needs
 
+returns : tie.Need-returns
+returns c =
+    let s = c .before .before .before .before .before .before .before .before .before .before .before in
+    circle-ends _ _ _ _ _ _ _ (c .before .before .before .before .before .before .before .enum-told .given .1) (s .pre .low) (c .before .before .before .before .generate-circle .ensures)
+
 same-length-3 : tie.Need-same-length-3
 same-length-3 c = search needs
+
+same-length-4 : tie.Need-same-length-4
+same-length-4 c = search needs
 
 returns-2 : tie.Need-returns-2
 returns-2 c =
@@ -53,23 +56,29 @@ returns-2 c =
     let k = c .before .before .before .before .before .before .before .before .kind .given in
     slider-ends _ _ _ _ _ _ _ (k .0 .0) (k .0 .1 .0) (k .0 .1 .1 .0) (k .1) (s .pre .low) (c .before .before .before .before .generate-slider .ensures)
 
-same-length-4 : tie.Need-same-length-4
-same-length-4 c = search needs
-
-returns-3 : tie.Need-returns-3
-returns-3 c =
-    let s = c .before .before .before .before .before .before .before .before .before in
-    let k = c .before .before .before .before .before .kind2 .given in
-    spinner-ends _ _ _ _ _ _ _ (k .0 .0) (s .pre .last) (s .pre .mask) (c .before .before .generate-owned .ensures) (k .1)
-
 same-length-5 : tie.Need-same-length-5
 same-length-5 c = search needs
 
+same-length-6 : tie.Need-same-length-6
+same-length-6 c = search needs
+
+returns-3 : tie.Need-returns-3
+returns-3 c =
+    let s = c .before .before .before .before .before .before .before .before .before .before .before .before in
+    let k = c .before .before .before .before .before .before .before .before .kind2 .given in
+    spinner-ends _ _ _ _ _ _ _ (k .0 .0) (s .pre .last) (s .pre .mask) (c .before .before .before .before .generate-owned .ensures) (k .1)
+
+same-length-7 : tie.Need-same-length-7
+same-length-7 c = search needs
+
+same-length-8 : tie.Need-same-length-8
+same-length-8 c = search needs
+
 returns-4 : tie.Need-returns-4
 returns-4 c =
-    let s = c .before .before .before .before .before .before .before .before .before in
-    let k = c .before .before .before .before .before .kind3 .given in
-    hold-ends _ _ _ _ _ _ _ (k .0 .0) (s .pre .last) (s .pre .mask) (c .before .before .generate-owned2 .ensures) (k .1)
+    let s = c .before .before .before .before .before .before .before .before .before .before .before .before in
+    let k = c .before .before .before .before .before .before .before .before .kind3 .given in
+    hold-ends _ _ _ _ _ _ _ (k .0 .0) (s .pre .last) (s .pre .mask) (c .before .before .before .before .generate-owned2 .ensures) (k .1)
 
 pub generate-spec : {M : Type 1} → statement M
 generate-spec =
@@ -84,11 +93,14 @@ generate-spec =
     enum-known-kind-3
     generate-owned-requires-2
     same-length
-    returns
     same-length-2
+    returns
     same-length-3
-    returns-2
     same-length-4
-    returns-3
+    returns-2
     same-length-5
+    same-length-6
+    returns-3
+    same-length-7
+    same-length-8
     returns-4)

@@ -15,16 +15,19 @@ new-requires c κs = search needs
 
 generate-owned-requires : tie.Need-generate-owned-requires
 unfolding HitObject.new
-generate-owned-requires c κs = rw (c .before .new .ensures) (omega arith, omega arith, omega arith, omega arith)
+generate-owned-requires c κs = rw (c .before .before .new .ensures) (omega arith, omega arith, omega arith, omega arith)
 
 same-length : tie.Need-same-length
 same-length c = search needs
 
+same-length-2 : tie.Need-same-length-2
+same-length-2 c = search needs
+
 returns : tie.Need-returns
 unfolding HitObject.new
 returns c =
-    let a = c .before .before .before .before .before .before .args in
-    subst (λ (g : HitObjectPatternGenerator). Generates (circleAt (g .start)) (c .before .before .generate-owned .last .1 .1 .0) (on (HitObject.generate g) (a .d)) 14 (c .before .before .generate-owned .result)) (c .before .before .before .before .new .ensures) (c .before .before .generate-owned .ensures)
+    let a = c .before .before .before .before .before .before .before .before .before .before .args in
+    subst (λ (g : HitObjectPatternGenerator). Generates (circleAt (g .start)) (c .before .before .before .before .generate-owned .last .1 .1 .0) (on (HitObject.generate g) (a .d)) 14 (c .before .before .before .before .generate-owned .result)) (c .before .before .before .before .before .before .before .new .ensures) (c .before .before .before .before .generate-owned .ensures)
 
 pub generate-circle-spec : {M : Type 1} → statement M
-generate-circle-spec = tie.close (tie.spec new-requires generate-owned-requires same-length returns)
+generate-circle-spec = tie.close (tie.spec new-requires generate-owned-requires same-length same-length-2 returns)

@@ -1,0 +1,4 @@
+pub mod Answers
+pub mod Circle
+pub mod Slider
+pub mod Spinner

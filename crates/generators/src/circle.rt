@@ -1,0 +1,70 @@
+// A circle.
+ghost use mathlib.Core.Path.{_≡_};
+ghost use Prim.Native.Nat.{_≤_, _<_};
+ghost use lib.ListN.{length};
+ghost use Rattle.random.specs.Play.{on};
+ghost use Rattle.mania.specs.HitObject as Rule;
+ghost use Rattle.pattern.specs.Answers.{Generates};
+ghost use Rattle.circle_notes.specs.Answers.{circleAt};
+ghost use Rattle.generators.specs.Circle.{Asks, Ends};
+use crate::LentEnd;
+use crate::Turn;
+use mania::HitObjectPatternGenerator;
+use pattern::ObjectEnd;
+use random::Draws;
+use random::Random;
+
+// What the generator is asked: how many draws are left, and what the pattern is made from.
+pub struct Ask {
+    pub left: u32,
+    pub g: HitObjectPatternGenerator,
+}
+
+// The state and the answer apart.
+fn take_turn(random: Random, ask: Ask, words: &mut [u64], spare: &mut [u64]) -> Turn
+    requires { ⌜ Asks ask (length (now words)) ⌝ }
+    ensures { λ r. ⌜ Ends random ask (now (words .exit)) (r .random) (r .end) ⌝ }
+{
+    let d = Draws {
+        random,
+        left: ask.left,
+    };
+    let g = ask.g;
+    let end = hit_object::generate_by_value(d, g, words);
+    crate::turn_of(end)
+}
+
+// The state is lent, and altered there.
+pub fn generate(random: &mut Random, ask: Ask, words: &mut [u64], spare: &mut [u64]) -> LentEnd
+    requires { ⌜ Asks ask (length (now words)) ⌝ }
+    ensures { λ r. ⌜ Ends (now (random .entry)) ask (now (words .exit)) (now (random .exit)) r ⌝ }
+{
+    let t = take_turn(*random, ask, words, spare);
+    *random = t.random;
+    t.end
+}
+
+// Lends its state to `generate`.
+fn lend(mut random: Random, ask: Ask, words: &mut [u64], spare: &mut [u64]) -> Turn
+    requires { ⌜ Asks ask (length (now words)) ⌝ }
+    ensures { λ r. ⌜ Ends random ask (now (words .exit)) (r .random) (r .end) ⌝ }
+{
+    let end = generate(&mut random, ask, words, spare);
+    Turn { random, end }
+}
+
+// For whoever owns the state: it is lent to `generate`.
+pub fn generate_owned(
+    d: Draws,
+    g: HitObjectPatternGenerator,
+    words: &mut [u64],
+    spare: &mut [u64],
+) -> ObjectEnd
+    requires { ⌜ (0 < g .columns) × (g .columns ≤ 9) × (g .last < g .columns) × (16 ≤ length (now words)) ⌝ }
+    ensures { λ r. ⌜ Generates (circleAt (g .start)) (now (words .exit)) (on (Rule.generate g) d) 14 r ⌝ }
+{
+    let ask = Ask { left: d.left, g };
+    let random = d.random;
+    let t = lend(random, ask, words, spare);
+    crate::object_end(t)
+}
