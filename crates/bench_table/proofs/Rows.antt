@@ -1,7 +1,7 @@
 -- The bench table's rows marked M, and the small examples of the refusals that the rules give, computed. `double a b` is the f64 nearest to
 -- a / b. Assumes nothing.
 use mathlib.Core.Path.{_≡_, refl}
-use Prim.Native.Nat.{ℕ, _+_, _^_}
+use Prim.Native.Nat.{ℕ, _^_}
 use mathlib.Core.Bool.{true, false}
 use mathlib.Core.List.{List, [], _∷_, _++_}
 use lib.IntN.{pos}
@@ -35,7 +35,6 @@ use Rattle.model.specs.Song.{Song}
 use Rattle.mania.specs.Convert.{at, seed, targetColumns, convert}
 use Rattle.mania.specs.Single.{withRoom, entryRefusal}
 use Rattle.mania.specs.Chart.{arranged, inWalkOrder, encode}
-use Rattle.mania.specs.Job.{job}
 use Rattle.mania.proofs.Computing.{computing}
 
 abbrev settings : Float → Float → Float → Float → Settings

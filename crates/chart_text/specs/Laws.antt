@@ -5,12 +5,12 @@ use mathlib.Core.Bool.{Bool, true, false}
 use mathlib.Core.Logic.{⊎-elim}
 use mathlib.Core.List.{List, [], _∷_, _++_, append-assoc, append-nil}
 use Prim.Native.Nat.{ℕ, zero, suc, _+_, _-_, _*_, _/_, _%_, _^_, _≤_, _<_}
-use native.Mathlib.Nat.{add-zero, pow-suc, div-lt-iff-lt-mul}
+use native.Mathlib.Nat.{pow-suc, div-lt-iff-lt-mul}
 use native.Mathlib.Numerals.{add-one}
 use native.Mathlib.Omega.{arith}
 use lib.Dec.{ltb}
-use lib.ListN.{length, getD, take, drop, set, length-append, length-drop, take-append-drop}
-use lib.Seq.{take-suc, drop-cons, take-at, getD-at, set-at, take-all, drop-length, length-take-le, drop-drop}
+use lib.ListN.{length, getD, take, drop, set, length-append, length-drop}
+use lib.Seq.{take-suc, drop-cons, take-at, getD-at, take-all, drop-length, length-take-le, drop-drop}
 use borrow.Author.Tests.{lt-ltb, le-ltb, ltb-false, eqb-true}
 use Rattle.chart.specs.declared.Note.{Note}
 use Rattle.chart.specs.Tests.{passes, both, either-way}

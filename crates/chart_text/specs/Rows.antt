@@ -1,7 +1,7 @@
 -- Worked examples, computed. Assumes nothing.
 use mathlib.Core.Path.{_≡_, refl}
 use mathlib.Core.Bool.{true}
-use mathlib.Core.List.{List, [], _∷_, _++_}
+use mathlib.Core.List.{[], _∷_}
 use Rattle.chart.specs.declared.Note.{Note}
 use Rattle.chart_text.specs.Text.{ascii, digit, digits, places, decimal, hex, named, withHex, headLine, noteLine, noteLines, refusalLine, chartText}
 

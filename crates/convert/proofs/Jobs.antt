@@ -23,7 +23,7 @@ use Rattle.chart.specs.Laws.Arranged.{length-arranged, finished}
 use Rattle.model.specs.Song.{Song}
 use Rattle.mania.specs.declared.Note.{Note}
 use Rattle.mania.specs.Chart.{body, patternOf, arranged, inWalkOrder, encode, written}
-use Rattle.mania.specs.Convert.{seed, columnsOf, convert, walk}
+use Rattle.mania.specs.Convert.{seed, columnsOf, convert}
 use Rattle.mania.specs.Job.{Job, ending, refusing, under}
 use Rattle.mania.specs.Job as OfSong
 use Rattle.mania.specs.Walked.{Stop, stop, spentAt, refusedAt, onWalk}

@@ -1,5 +1,5 @@
 -- Demand 3's half on draws, from the law that holds of every rule. Assumes nothing.
-use mathlib.Core.Path.{_≡_, refl, sym, ap, _∙_}
+use mathlib.Core.Path.{_≡_, refl, ap}
 use Prim.Native.Nat.{ℕ, _≤_, _<_}
 use native.Mathlib.Omega.{arith}
 use mathlib.Core.List.{List}
@@ -11,7 +11,7 @@ use Rattle.random.specs.Laws.Allowance.{lawful}
 use Rattle.mania.specs.declared.Note.{Note}
 use Rattle.model.specs.Song.{Song}
 use Rattle.mania.specs.Convert.{AtObject, seed, columnsOf, convert}
-use Rattle.mania.specs.Job.{Answer, accepted, refusal, Job, ending, refusing, under, job}
+use Rattle.mania.specs.Job.{Answer, accepted, refusal, ending, refusing, under, job}
 use Rattle.mania.specs.Demand.{draws, Other}
 
 -- no refusal of a rule has the number of a spent draw

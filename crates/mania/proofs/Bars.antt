@@ -1,14 +1,13 @@
 -- A slider's notes in whole milliseconds: when two of them share no lane. Assumes nothing.
 use mathlib.Core.Path.{_≡_, refl, sym, ap, _∙_, subst}
-use Prim.Native.Nat.{ℕ, zero, suc, _+_, _-_, _*_, _/_, _%_, _^_, _≤_, _<_}
-use native.Mathlib.Nat.{mul-div-cancel, mul-one, mul-assoc, mul-comm, mul-right-comm, mul-lt-mul-of-pos-right, lt-of-lt-of-le, lt-of-le-of-lt, le-trans, lt-irrefl}
+use Prim.Native.Nat.{ℕ, _*_, _/_, _^_, _≤_, _<_}
+use native.Mathlib.Nat.{mul-div-cancel, mul-one, mul-right-comm, mul-lt-mul-of-pos-right, le-trans}
 use native.Mathlib.Omega.{arith}
 use mathlib.Core.Bool.{Bool, true, false}
 use mathlib.Core.List.{List, [], _∷_, _++_, map, append-nil, append-assoc}
 use lib.ListN.{length}
 use lib.Dec.{eqb}
 use lib.Pow.{pow-pos}
-use lib.IntN.{pos}
 use lib.Ieee.{Float, nan, inf, fin, up, down, binary64, round, ofInt}
 use lib.Ieee.Fits.{down-pos}
 use lib.Ieee.Exact.{HasValue}
@@ -24,7 +23,7 @@ use Rattle.mania.specs.Made.{Made, circle}
 use Rattle.mania.specs.Pattern.{Pattern, empty, put}
 use Rattle.mania.specs.PathObject.{noteOf, others, ending, split}
 use Rattle.mania.specs.Demand.{lastInstant, Covers, Apart, Each, EveryTwo, Lanes}
-use Rattle.mania.proofs.Makes.{each-map, two-map}
+use Rattle.mania.proofs.Makes.{two-map}
 
 -- ---- a whole number's instant
 

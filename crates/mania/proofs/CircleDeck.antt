@@ -1,6 +1,6 @@
 -- A circle's notes lie on the deck, and so do the mask and the last column that it leaves. Assumes nothing.
 use mathlib.Core.Path.{_≡_}
-use Prim.Native.Nat.{ℕ, zero, suc, _-_, _/_, _^_, _<_}
+use Prim.Native.Nat.{ℕ, zero, suc, _/_, _^_, _<_}
 use mathlib.Core.Bool.{_&&_}
 use lib.Dec.{eqb, ltb}
 use lib.Bits.{or-lt}

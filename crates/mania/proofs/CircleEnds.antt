@@ -1,26 +1,23 @@
 -- A circle is refused only by the deck, at a reverse stair of 8 columns from column 0. Assumes nothing.
 use mathlib.Core.Path.{_≡_, refl, sym, ap, _∙_, subst}
 use mathlib.Core.Logic.{_⊎_, inl, inr, ⊎-elim}
-use Prim.Native.Nat.{ℕ, zero, suc, _+_, _-_, _*_, _/_, _%_, _^_, _≤_, _<_, min}
-use native.Mathlib.Nat.{le-trans}
+use Prim.Native.Nat.{ℕ, zero, suc, _+_, _-_, _*_, _/_, _%_, _^_, _≤_, _<_}
 use native.Mathlib.Omega.{arith}
 use mathlib.Core.Bool.{Bool, true, false, not, _&&_, _||_}
-use mathlib.Core.List.{List, [], _∷_}
 use lib.Dec.{eqb, ltb, lit≤}
 use lib.Bits.{bitOr, or-zero-l}
-use lib.Count.{ones}
 use lib.Ieee.{Float, round, sub, lt}
 use lib.ListN.{getD}
 use borrow.Author.Tests.{eqb-true, eqb-false, ltb-true, ltb-false, eq-eqb, ne-eqb}
-use Rattle.rules.specs.Rule.{if_then_else_, Rule, give, refuse}
-use Rattle.rules.specs.Refusal.{Refusal, noColumn, offDeck, ObjectRule}
+use Rattle.rules.specs.Rule.{if_then_else_}
+use Rattle.rules.specs.Refusal.{Refusal, offDeck, ObjectRule}
 use Rattle.random.specs.Generator.{unit}
 use Rattle.mania.specs.declared.Note.{Note}
 use Rattle.mania.specs.declared.HitObjectPatternGenerator.{HitObjectPatternGenerator}
 use Rattle.mania.specs.Steps.{double, least, clamped}
 use Rattle.mania.specs.Sound.{finish, clap, hasFlag}
-use Rattle.mania.specs.PatternType.{forceStack, forceNotStack, keepSingle, lowProbability, mirror, reverse, cycle, stair, reverseStair, contains}
-use Rattle.mania.specs.Made.{Made, circle}
+use Rattle.mania.specs.PatternType.{forceStack, forceNotStack, keepSingle, mirror, reverse, cycle, stair, reverseStair, contains}
+use Rattle.mania.specs.Made.{circle}
 use Rattle.mania.specs.Pattern.{Pattern, free, empty, put, add}
 use Rattle.mania.specs.ManiaObject.{column}
 use Rattle.mania.specs.PatternGenerator.{randomStart, getColumn, getRandomNoteCount}
@@ -28,7 +25,7 @@ use Rattle.mania.specs.HitObject
 use Rattle.mania.proofs.Columns.{and-l, and-r, start-le, start-small}
 use Rattle.mania.proofs.Meets.{Meets, giving, refusing, seq, by, less, valued, added}
 use Rattle.mania.proofs.Frees.{frees, all-free, frees-put, frees-put-in, frees-past, room}
-use Rattle.mania.proofs.Searching.{never, In, FreeIn, search-in, search-by, any-in}
+use Rattle.mania.proofs.Searching.{never, In, search-in, search-by, any-in}
 use Rattle.mania.proofs.NoteCounts.{None, none-zero, at-most-1, at-most-2, at-most-3, any-count}
 
 -- ---- the deck

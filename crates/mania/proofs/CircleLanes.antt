@@ -1,32 +1,27 @@
 -- The notes of a circle are on columns of their own, and P holds of each where it holds of a circle at the start on each column. Assumes nothing.
-use mathlib.Core.Path.{_≡_, refl, sym, ap, _∙_, subst}
+use mathlib.Core.Path.{_≡_, refl, sym, _∙_, subst}
 use mathlib.Core.Logic.{_⊎_, inl, inr, ⊎-elim}
-use Prim.Native.Nat.{ℕ, zero, suc, _+_, _-_, _*_, _/_, _%_, _^_, _≤_, _<_, min}
-use native.Mathlib.Nat.{le-refl}
+use Prim.Native.Nat.{ℕ, zero, suc, _+_, _-_, _/_, _%_, _^_, _≤_, _<_}
 use native.Mathlib.Omega.{arith}
 use mathlib.Core.Bool.{Bool, true, false, not, _&&_}
 use mathlib.Core.List.{List, [], _∷_, _++_}
 use lib.Dec.{eqb, ltb}
 use lib.Bits.{bitOr}
-use lib.Count.{ones}
-use lib.Ieee.{Float, binary64}
-use lib.Ieee as Ieee
-use borrow.Author.Tests.{eqb-true, eqb-false, ltb-true}
-use Rattle.rules.specs.Rule.{if_then_else_, Rule, give, refuse, _>>=_}
-use Rattle.random.specs.Generator.{between, unit}
+use borrow.Author.Tests.{eqb-false, ltb-true}
+use Rattle.rules.specs.Rule.{if_then_else_, _>>=_}
+use Rattle.random.specs.Generator.{unit}
 use Rattle.mania.specs.declared.Note.{Note}
-use Rattle.mania.specs.declared.Next.the-variants.{Draw}
 use Rattle.mania.specs.declared.HitObjectPatternGenerator.{HitObjectPatternGenerator}
 use Rattle.mania.specs.Sound.{finish, clap, hasFlag}
 use Rattle.mania.specs.PatternType.{forceStack, forceNotStack, keepSingle, mirror, reverse, stair, reverseStair, contains}
-use Rattle.mania.specs.Made.{Made, circle}
-use Rattle.mania.specs.Pattern.{Pattern, free, empty, put, add}
-use Rattle.mania.specs.PatternGenerator.{randomStart, getColumn, getRandomNoteCount, getRandomColumn, findAvailableColumn}
+use Rattle.mania.specs.Made.{circle}
+use Rattle.mania.specs.Pattern.{Pattern, free, empty, put}
+use Rattle.mania.specs.PatternGenerator.{randomStart}
 use Rattle.mania.specs.HitObject
 use Rattle.mania.specs.Demand.{Apart, Each, EveryTwo, Lanes}
 use Rattle.mania.proofs.Masks.{bit, or-left, or-own, or-free-left}
-use Rattle.mania.proofs.Makes.{Makes, giving, refusing, seq, less, by, valued, added, each-snoc, each-map, two-snoc, two-map}
-use Rattle.mania.proofs.Columns.{and-l, and-r, between-ge, next-ge, start-le, start-small, find-draw, find-any, column-makes, within, counted}
+use Rattle.mania.proofs.Makes.{Makes, giving, seq, less, by, valued, added, each-snoc, each-map, two-snoc, two-map}
+use Rattle.mania.proofs.Columns.{and-l, between-ge, next-ge, start-le, start-small, find-draw, find-any, column-makes, within, counted}
 
 abbrev pub Differ : Note → Note → Type 0
 Differ n m = n .column ≡ m .column → ⊥

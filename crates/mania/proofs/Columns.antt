@@ -1,14 +1,13 @@
 -- What a search for a column gives. Assumes nothing.
-use mathlib.Core.Path.{_≡_, refl, sym, ap, _∙_}
-use Prim.Native.Nat.{ℕ, zero, suc, _+_, _-_, _*_, _/_, _%_, _^_, _≤_, _<_}
+use mathlib.Core.Path.{_≡_, refl, ap}
+use Prim.Native.Nat.{ℕ, zero, suc, _+_, _-_, _/_, _^_, _≤_, _<_}
 use native.Mathlib.Omega.{arith}
 use mathlib.Core.Bool.{Bool, true, false, _&&_}
 use lib.Dec.{eqb}
 use lib.Ieee.{Float}
-use borrow.Author.Tests.{eqb-true, eqb-false}
-use Rattle.rules.specs.Rule.{if_then_else_, Rule, give, refuse, drawUntil, _>>=_}
+use borrow.Author.Tests.{eqb-true}
+use Rattle.rules.specs.Rule.{if_then_else_, _>>=_}
 use Rattle.random.specs.Generator.{between}
-use Rattle.random.specs.Play.{value}
 use Rattle.random.specs.Laws.Range.{between-lt}
 use Rattle.mania.specs.declared.Next.{Next}
 use Rattle.mania.specs.declared.Next.the-variants.{Draw, Step}

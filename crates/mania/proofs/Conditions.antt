@@ -6,13 +6,13 @@ use native.Mathlib.Nat.{add-zero, sub-zero, eq-zero-or-pos}
 use native.Mathlib.Omega.{arith}
 use mathlib.Core.Bool.{Bool, true, false, _||_}
 use mathlib.Core.List.{List, [], _∷_}
-use lib.Dec.{eqb, ltb, lit<}
+use lib.Dec.{eqb, ltb}
 use lib.Count.{ones, onesIn, ones-le}
 use lib.Ieee.{Float}
 use lib.ListN.{length}
 use lib.Pow.{pow-pos}
 use borrow.Author.Tests.{eqb-true, eqb-false}
-use Rattle.rules.specs.Rule.{Rule, give, refuse, draw, drawUntil, label, _>>=_, if_then_else_, Outcome, ended, spent, run}
+use Rattle.rules.specs.Rule.{Rule, give, refuse, draw, drawUntil, _>>=_, Outcome, ended, spent, run}
 use Rattle.rules.specs.Rule as Rule
 use Rattle.rules.specs.Refusal.{Refusal, lateEnd, noColumn, offDeck, tooShort, number, spentNumber}
 use Rattle.random.specs.Generator.{values}
@@ -29,9 +29,8 @@ use Rattle.model.specs.declared.Kind.the-variants.{Circle, Slider, Spinner, Hol
 use Rattle.mania.specs.declared.Facts.{Facts}
 use Rattle.mania.specs.declared.PrevValues.{PrevValues}
 use Rattle.mania.specs.Made.{Made}
-use Rattle.mania.specs.Pattern.{Pattern, free, anyFree, empty, put}
-use Rattle.mania.specs.PatternType.{reverseStair, contains}
-use Rattle.mania.specs.PatternGenerator.{randomStart, conversionDifficulty}
+use Rattle.mania.specs.Pattern.{free, anyFree}
+use Rattle.mania.specs.PatternGenerator.{randomStart}
 use Rattle.mania.specs.LimitedQueue.{Density}
 use Rattle.mania.specs.HitObject
 use Rattle.mania.specs.PathObject

@@ -1,17 +1,16 @@
 -- An object makes at most 2,050 notes. Assumes nothing.
 use mathlib.Core.Path.{_≡_, refl, sym, ap, _∙_, subst}
 use Prim.Native.Nat.{ℕ, zero, suc, _+_, _-_, _*_, _^_, _≤_, _<_, min}
-use native.Mathlib.Nat.{le-trans, mul-le-mul-right, mul-le-mul-left, mul-comm}
+use native.Mathlib.Nat.{le-trans, mul-le-mul-right, mul-le-mul-left}
 use native.Mathlib.Omega.{arith}
-use mathlib.Core.Bool.{Bool, true, false, not, _&&_}
+use mathlib.Core.Bool.{Bool, true, false, _&&_}
 use mathlib.Core.List.{List, [], _∷_, _++_, map}
 use lib.Dec.{eqb, leb, ltb, lit≤}
-use lib.Count.{ones}
 use lib.Ieee.{Float, lt}
 use lib.ListN.{length, length-append}
-use borrow.Author.Tests.{leb-false, leb-true, ltb-false}
-use Rattle.rules.specs.Rule.{if_then_else_, Rule, give, refuse, draw, drawUntil, label, _>>=_, ended}
-use Rattle.random.specs.Generator.{between, seeded}
+use borrow.Author.Tests.{leb-false, ltb-false}
+use Rattle.rules.specs.Rule.{if_then_else_, Rule, give, refuse, draw, drawUntil, _>>=_, ended}
+use Rattle.random.specs.Generator.{seeded}
 use Rattle.mania.specs.declared.Facts.{Facts}
 use Rattle.mania.specs.declared.PrevValues.{PrevValues}
 use Rattle.model.specs.declared.Object.{Object}
@@ -22,7 +21,7 @@ use Rattle.mania.specs.declared.SliderNote.{SliderNote}
 use Rattle.mania.specs.declared.PathObjectPatternGenerator.{PathObjectPatternGenerator}
 use Rattle.mania.specs.Steps.{double}
 use Rattle.mania.specs.Made.{Made, circle}
-use Rattle.mania.specs.Pattern.{Pattern, empty, put, add}
+use Rattle.mania.specs.Pattern.{Pattern, empty, put}
 use Rattle.mania.specs.PatternGenerator.{randomStart}
 use Rattle.mania.specs.HitObject
 use Rattle.mania.specs.EndTimeObject
@@ -34,7 +33,7 @@ use Rattle.mania.specs.Convert
 use Rattle.model.specs.Song.{Song}
 use Rattle.mania.specs.Convert.{Walk, at, seed, columnsOf, convert}
 use Rattle.mania.specs.Job.{under}
-use Rattle.mania.specs.Demand.{Each, EveryTwo}
+use Rattle.mania.specs.Demand.{Each}
 use Rattle.random.specs.Play.{found, on}
 use Rattle.random.specs.declared.Draws.{Draws}
 use Rattle.random.specs.Laws.On.{gives}

@@ -1,6 +1,6 @@
 -- What the notes of a walk have in common: the deck, the lanes and more. Assumes nothing.
 use mathlib.Core.Path.{_≡_, refl, sym, subst}
-use Prim.Native.Nat.{ℕ, zero, suc, _+_, _-_, _*_, _/_, _≤_, _<_, min, max}
+use Prim.Native.Nat.{ℕ, suc, _+_, _-_, _*_, _/_, _≤_, _<_}
 use native.Mathlib.Nat.{div-mul-le-self, mul-pos}
 use native.Mathlib.Omega.{arith}
 use mathlib.Core.Bool.{Bool, true, false, _||_}
@@ -9,9 +9,8 @@ use lib.Dec.{eqb, leb, ltb}
 use lib.Ieee.{Float, le, lt}
 use lib.ListN.{length}
 use borrow.Author.Tests.{eqb-false}
-use Rattle.rules.specs.Rule.{if_then_else_, Rule, give, refuse, label, _>>=_, ended}
+use Rattle.rules.specs.Rule.{if_then_else_, _>>=_, ended}
 use Rattle.random.specs.Generator.{seeded}
-use Rattle.random.specs.Laws.Gives.{Gives}
 use Rattle.model.specs.declared.Settings.{Settings}
 use Rattle.mania.specs.declared.Facts.{Facts}
 use Rattle.mania.specs.declared.PrevValues.{PrevValues}

@@ -1,18 +1,18 @@
 -- 11 in a walk: with room enough the objects so far make notes, after the same draws, and a chart of them is longer than the buffer. Assumes nothing.
 use mathlib.Core.Path.{_≡_, refl, sym, ap, _∙_, subst}
-use mathlib.Core.Logic.{_⊎_, inl, inr, ⊎-elim}
-use Prim.Native.Nat.{ℕ, zero, suc, _+_, _-_, _*_, _^_, _≤_, _<_}
+use mathlib.Core.Logic.{_⊎_, inl, inr}
+use Prim.Native.Nat.{ℕ, suc, _+_, _-_, _*_, _^_, _≤_, _<_}
 use native.Mathlib.Nat.{add-zero, zero-add}
 use native.Mathlib.Omega.{arith}
 use mathlib.Core.Bool.{Bool, true, false}
-use mathlib.Core.List.{List, [], _∷_, _++_, append-nil}
+use mathlib.Core.List.{List, [], _∷_, append-nil}
 use lib.Dec.{ltb}
 use lib.Ieee.{Float}
 use lib.ListN.{length, take, length-append}
 use lib.Pow.{pow-pos}
 use borrow.Author.Tests.{ltb-true, le-ltb}
-use Rattle.rules.specs.Rule.{Rule, refuse, Outcome, ended, spent, run, taken, Done, if_then_else_}
-use Rattle.rules.specs.Refusal.{Refusal, tooShort, ObjectRule, number, spentNumber}
+use Rattle.rules.specs.Rule.{Rule, refuse, Outcome, ended, run, taken, Done, if_then_else_}
+use Rattle.rules.specs.Refusal.{tooShort, ObjectRule, number}
 use Rattle.rules.specs.Rule as Rule
 use Rattle.random.specs.Generator.{values, seeded, steps}
 use Rattle.random.specs.Play.{Answer, found, refused, on, play}
@@ -23,7 +23,6 @@ use Rattle.random.specs.Laws.Allowance.{done-le, found-run}
 use Rattle.mania.specs.declared.Note.{Note}
 use Rattle.model.specs.declared.Object.{Object}
 use Rattle.mania.specs.declared.Facts.{Facts}
-use Rattle.mania.specs.declared.PrevValues.{PrevValues}
 use Rattle.mania.specs.Made.{Made}
 use Rattle.mania.specs.LimitedQueue.{Density}
 use Rattle.mania.specs.Object.{object}

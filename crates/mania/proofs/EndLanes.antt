@@ -8,8 +8,7 @@ use Rattle.mania.specs.declared.Note.{Note}
 use Rattle.model.specs.declared.Object.{Object}
 use Rattle.mania.specs.Steps.{double}
 use Rattle.mania.specs.Sound.{finish, hasFlag}
-use Rattle.mania.specs.Made.{Made}
-use Rattle.mania.specs.Pattern.{Pattern, empty, put}
+use Rattle.mania.specs.Pattern.{empty, put}
 use Rattle.mania.specs.PatternGenerator.{randomStart}
 use Rattle.mania.specs.EndTimeObject
 use Rattle.mania.specs.Demand.{Each, Lanes}

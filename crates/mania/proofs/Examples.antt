@@ -2,12 +2,11 @@
 use mathlib.Core.Path.{_≡_, refl}
 use mathlib.Core.List.{[], _∷_}
 use lib.ListN.{replicate}
-use Rattle.model.specs.declared.Settings.{Settings}
 use Rattle.model.specs.declared.Kind.the-variants.{Hold}
 use Rattle.model.specs.Song.{Song}
 use Rattle.mania.specs.Steps.{single, double}
 use Rattle.mania.specs.Convert.{seed}
-use Rattle.mania.specs.Job.{Job, accepted, job}
+use Rattle.mania.specs.Job.{accepted, job}
 use Rattle.mania.proofs.Computing.{computing}
 
 -- all settings 10: 20 times 20, and 412, and 10

@@ -1,12 +1,12 @@
 -- How many columns of a range a mask has free. Assumes nothing.
-use mathlib.Core.Path.{_≡_, refl, sym, ap, _∙_, subst}
-use Prim.Native.Nat.{ℕ, zero, suc, _+_, _-_, _*_, _/_, _%_, _^_, _≤_, _<_, max}
+use mathlib.Core.Path.{_≡_, refl, sym, ap, _∙_}
+use Prim.Native.Nat.{ℕ, zero, suc, _+_, _-_, _/_, _%_, _^_, _≤_, _<_, max}
 use native.Mathlib.Nat.{div-one, zero-div, one-mul, div-eq-of-lt}
 use native.Mathlib.Numerals.{add-one}
 use native.Mathlib.Omega.{arith}
 use mathlib.Core.Bool.{Bool, true, false, _||_}
 use lib.Dec.{eqb, ltb}
-use lib.Pow.{pow-pos, pow-lt, pow-add, shl-shr, shr-shr}
+use lib.Pow.{pow-lt, pow-add, shl-shr, shr-shr}
 use lib.Count.{ones, ones-step}
 use lib.Bits.{bitOr, shifted-even}
 use borrow.Author.Tests.{eqb-true, eqb-false, eq-eqb, ltb-true, ltb-false}

@@ -1,12 +1,11 @@
 -- What holds of all that a rule can give, and of all that it can refuse by, its draws being below 2 ^ 31. Assumes nothing.
-use mathlib.Core.Path.{_≡_, refl, sym, subst}
+use mathlib.Core.Path.{_≡_, refl, subst}
 use Prim.Native.Nat.{ℕ, zero, suc, _^_, _<_}
 use mathlib.Core.Bool.{Bool, true, false}
 use mathlib.Core.List.{List, [], _∷_}
-use lib.Dec.{ltb}
 use borrow.Author.Tests.{lt-ltb}
 use Rattle.rules.specs.Rule.{if_then_else_, Rule, give, refuse, draw, drawUntil, _>>=_, label, Outcome, ended, refused, spent, after, drawingUntil, run}
-use Rattle.random.specs.Generator.{next, low, values}
+use Rattle.random.specs.Generator.{next, values}
 use Rattle.random.specs.Play.{value}
 use Rattle.random.specs.declared.Random.{Random}
 use Rattle.random.specs.Laws.Gives.{low-lt}

@@ -1,7 +1,7 @@
 -- How many notes a draw can mean: a chance of 0 means none of its number. Assumes nothing.
 use mathlib.Core.Path.{_≡_, refl, sym, ap, _∙_, subst}
-use Prim.Native.Nat.{ℕ, zero, suc, _+_, _*_, _^_, _≤_, _<_}
-use native.Mathlib.Nat.{le-of-mul-le-mul-right, mul-comm, mul-one, one-mul, mul-le-mul-right}
+use Prim.Native.Nat.{ℕ, _*_, _^_, _≤_, _<_}
+use native.Mathlib.Nat.{le-of-mul-le-mul-right, mul-comm, mul-le-mul-right}
 use native.Mathlib.Omega.{arith}
 use mathlib.Core.Bool.{Bool, true, false}
 use lib.Dec.{T, lit≤}
@@ -13,7 +13,7 @@ use Rattle.rules.specs.Rule.{if_then_else_}
 use Rattle.rules.specs.Refusal.{Refusal}
 use Rattle.random.specs.Generator.{unit}
 use Rattle.random.specs.Laws.Unit.{unit-exact}
-use Rattle.floats.specs.Laws.Values.{Sized, sized}
+use Rattle.floats.specs.Laws.Values.{sized}
 use Rattle.floats.specs.Laws.Ranges.{le-sizes}
 use Rattle.mania.specs.Steps.{double}
 use Rattle.mania.specs.PatternGenerator.{noteCount, getRandomNoteCount}

@@ -1,15 +1,13 @@
 -- The order of notes by their starts is that of the chart crate by the patterns of their starts. Assumes nothing.
 use mathlib.Core.Path.{_≡_, refl, sym, ap, _∙_}
 use mathlib.Core.Logic.{⊎-elim}
-use Prim.Native.Nat.{ℕ, suc, _+_, _≤_, _<_, zero-le}
-use native.Mathlib.Omega.{arith}
+use Prim.Native.Nat.{ℕ, _≤_, _<_, zero-le}
 use mathlib.Core.Bool.{Bool, true, false, _&&_, cond}
-use mathlib.Core.List.{List, [], _∷_, _++_, map}
+use mathlib.Core.List.{List, [], _∷_, map}
 use lib.Dec.{T, ltb}
-use lib.ListN.{length}
 use lib.Ieee.{Float, binary64, fits, lt, ofBits, toBits}
 use lib.Ieee.Bits.{ofBits-toBits}
-use borrow.Author.Tests.{ltb-true, ltb-false}
+use borrow.Author.Tests.{ltb-true}
 use Rattle.rules.specs.Rule.{if_then_else_}
 use Rattle.floats.specs.Laws.Patterns.{lt-bits}
 use Rattle.chart.specs.declared.Note as Patterns

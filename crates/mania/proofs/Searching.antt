@@ -1,12 +1,12 @@
 -- Searches that are not refused: one column of their range is free. Assumes nothing.
 use mathlib.Core.Path.{_≡_, refl, sym, ap, _∙_, subst}
-use Prim.Native.Nat.{ℕ, zero, suc, _+_, _-_, _*_, _^_, _≤_, _<_}
+use Prim.Native.Nat.{ℕ, zero, suc, _+_, _-_, _≤_, _<_}
 use native.Mathlib.Omega.{arith}
 use mathlib.Core.Bool.{Bool, true, false}
 use lib.Dec.{eqb, ltb}
 use borrow.Author.Tests.{eqb-true, eqb-false, ltb-true, ltb-false, ne-eqb}
-use Rattle.rules.specs.Rule.{if_then_else_, Rule, give, refuse}
-use Rattle.rules.specs.Refusal.{Refusal, noColumn, ObjectRule}
+use Rattle.rules.specs.Rule.{if_then_else_}
+use Rattle.rules.specs.Refusal.{Refusal, noColumn}
 use Rattle.random.specs.Generator.{between}
 use Rattle.mania.specs.declared.Next.{Next}
 use Rattle.mania.specs.declared.Next.the-variants.{Draw, Step}

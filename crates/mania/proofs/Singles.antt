@@ -1,13 +1,13 @@
 -- The claims of the single-object entry. Assumes nothing.
 use mathlib.Core.Path.{_≡_, refl, sym, ap, _∙_, subst}
-use Prim.Native.Nat.{ℕ, zero, suc, _+_, _-_, _*_, _^_, _≤_, _<_}
+use Prim.Native.Nat.{ℕ, _-_, _*_, _^_, _≤_, _<_}
 use native.Mathlib.Nat.{lt-of-not-le}
 use native.Mathlib.Omega.{arith}
 use mathlib.Core.Bool.{Bool, true, false, not, _&&_}
-use mathlib.Core.List.{List, []}
+use mathlib.Core.List.{List}
 use lib.Dec.{eqb, leb, ltb}
 use lib.ListN.{length}
-use borrow.Author.Tests.{ltb-true, ltb-false, leb-true, eqb-true, eqb-false, eq-eqb, ne-eqb}
+use borrow.Author.Tests.{ltb-true, ltb-false, leb-true, eqb-true, eqb-false}
 use Rattle.rules.specs.Rule.{Outcome, ended, spent, run, taken, Done, refuse, give, if_then_else_}
 use Rattle.rules.specs.Rule as Rule
 use Rattle.rules.specs.Refusal.{Refusal, lateEnd, noColumn, offDeck, tooShort, number, spentNumber, ObjectRule}
@@ -21,18 +21,16 @@ use Rattle.random.specs.Laws.Allowance.{lawful, done-le, found-run}
 use Rattle.model.specs.declared.Object.{Object}
 use Rattle.mania.specs.declared.Facts.{Facts}
 use Rattle.mania.specs.declared.PrevValues.{PrevValues}
-use Rattle.mania.specs.declared.Note.{Note}
 use Rattle.mania.specs.declared.Stair.{Stair}
 use Rattle.mania.specs.Made.{Made}
 use Rattle.mania.specs.Object.{object}
 use Rattle.mania.specs.Pattern.{free}
-use Rattle.mania.specs.Chart.{body, written}
 use Rattle.mania.specs.Refusals.{Late, Blocked, Below}
 use Rattle.mania.specs.Single.{made, refusal, Single, patternFits, settingsFit, pointsFit, objectFits, withRoom, entryRefusal, refusing, ending, singleObject}
 use Rattle.mania.specs.Single as Single
-use Rattle.mania.specs.Demand.{Each, Lanes, OnDeck}
+use Rattle.mania.specs.Demand.{OnDeck}
 use Rattle.mania.specs.SingleClaims.{under, draws, entry, Gave, RefusedBy, Claims}
-use Rattle.mania.proofs.Makes.{Makes, ran}
+use Rattle.mania.proofs.Makes.{ran}
 use Rattle.mania.proofs.Columns.{and-l, and-r}
 use Rattle.mania.proofs.Meets as Meets
 use Rattle.mania.proofs.Meets.{Meets, refused-meets, ended-meets}

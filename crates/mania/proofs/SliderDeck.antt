@@ -1,13 +1,11 @@
 -- The mask and the last column that a slider leaves lie on the deck. Assumes nothing.
-use mathlib.Core.Path.{_≡_, refl}
-use Prim.Native.Nat.{ℕ, zero, suc, _+_, _-_, _*_, _^_, _<_, min}
-use mathlib.Core.Bool.{Bool, true, false, not, _&&_}
+use Prim.Native.Nat.{ℕ, zero, suc, _-_, _^_, _<_}
+use mathlib.Core.Bool.{Bool, true, false, _&&_}
 use mathlib.Core.List.{List, [], _∷_, _++_, map}
 use lib.Dec.{eqb, leb, ltb}
 use lib.Bits.{or-lt}
-use lib.Count.{ones}
 use lib.Pow.{pow-pos, pow-lt}
-use lib.Ieee.{Float, lt}
+use lib.Ieee.{lt}
 use lib.ListN.{length}
 use Rattle.rules.specs.Rule.{if_then_else_}
 use Rattle.mania.specs.declared.SliderNote.{SliderNote}

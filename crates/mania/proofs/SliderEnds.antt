@@ -1,38 +1,34 @@
 -- What a slider, and a spinner or hold, is refused by: a late end, or a search that the previous pattern leaves no column. Assumes nothing.
-use mathlib.Core.Path.{_≡_, refl, sym, ap, _∙_, subst}
-use Prim.Native.Nat.{ℕ, zero, suc, _+_, _-_, _*_, _/_, _%_, _^_, _≤_, _<_, min}
+use mathlib.Core.Path.{_≡_, refl, sym, ap, subst}
+use Prim.Native.Nat.{ℕ, zero, suc, _+_, _-_, _^_, _≤_, _<_, min}
 use native.Mathlib.Nat.{le-trans}
 use native.Mathlib.Omega.{arith}
-use mathlib.Core.Bool.{Bool, true, false, not, _&&_, _||_}
-use mathlib.Core.List.{List, [], _∷_}
+use mathlib.Core.Bool.{Bool, true, false, _&&_}
 use lib.Dec.{eqb, leb, ltb, lit≤}
 use lib.Bits.{bitOr, or-zero-l, or-zero-r}
 use lib.Count.{ones, ones-le}
 use lib.Ieee.{Float, round, sub, lt}
-use lib.ListN.{getD}
-use borrow.Author.Tests.{eqb-true, eqb-false, ltb-true, ltb-false, leb-true, leb-false}
-use Rattle.rules.specs.Rule.{if_then_else_, Rule, give, refuse}
-use Rattle.rules.specs.Refusal.{Refusal, lateEnd, noColumn, offDeck, ObjectRule}
-use Rattle.random.specs.Generator.{between, unit}
+use borrow.Author.Tests.{eqb-true, eqb-false, ltb-true, leb-true}
+use Rattle.rules.specs.Rule.{if_then_else_}
+use Rattle.rules.specs.Refusal.{Refusal, lateEnd, noColumn, ObjectRule}
+use Rattle.random.specs.Generator.{between}
 use Rattle.random.specs.Laws.Range.{between-lt}
 use Rattle.model.specs.declared.Object.{Object}
 use Rattle.mania.specs.declared.PrevValues.{PrevValues}
-use Rattle.mania.specs.declared.Note.{Note}
 use Rattle.mania.specs.declared.SliderNote.{SliderNote}
 use Rattle.mania.specs.declared.PathObjectPatternGenerator.{PathObjectPatternGenerator}
 use Rattle.mania.specs.Steps.{double, least}
 use Rattle.mania.specs.Sound.{finish, hasFlag}
 use Rattle.mania.specs.PatternType.{forceNotStack, contains}
-use Rattle.mania.specs.Made.{Made}
-use Rattle.mania.specs.Pattern.{Pattern, free, anyFree, empty, put, add}
+use Rattle.mania.specs.Pattern.{Pattern, anyFree, empty, put}
 use Rattle.mania.specs.PatternGenerator.{randomStart, getColumn, getRandomNoteCount, findAvailableColumn}
 use Rattle.mania.specs.declared.Next.the-variants.{Draw}
 use Rattle.mania.specs.PathObject
 use Rattle.mania.specs.EndTimeObject
-use Rattle.mania.proofs.Columns.{and-l, and-r}
+use Rattle.mania.proofs.Columns.{and-r}
 use Rattle.mania.proofs.Meets.{Meets, giving, refusing, seq, by, less, valued, added}
-use Rattle.mania.proofs.Frees.{frees, some-free, all-free, frees-one, frees-put, frees-put-in, other-bit, room}
-use Rattle.mania.proofs.Searching.{never, In, FreeIn, search, search-in, any-in}
+use Rattle.mania.proofs.Frees.{frees, all-free, frees-one, frees-put, frees-put-in, other-bit, room}
+use Rattle.mania.proofs.Searching.{In, FreeIn, search, search-in, any-in}
 use Rattle.mania.proofs.NoteCounts.{None, none-zero, at-most-2, at-most-3, at-most-4}
 use Rattle.mania.proofs.CircleEnds.{start-of, two-columns, own-column}
 

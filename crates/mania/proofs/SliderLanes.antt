@@ -1,34 +1,30 @@
 -- No two notes of a slider share a lane, and B holds of each of its bars where it holds of those that can come. Assumes nothing.
-use mathlib.Core.Path.{_≡_, refl, sym, ap, _∙_, subst}
+use mathlib.Core.Path.{_≡_, refl, sym, subst}
 use mathlib.Core.Logic.{_⊎_, inl, inr, ⊎-elim}
-use Prim.Native.Nat.{ℕ, zero, suc, _+_, _-_, _*_, _/_, _%_, _^_, _≤_, _<_, min, max}
+use Prim.Native.Nat.{ℕ, zero, suc, _+_, _-_, _*_, _/_, _^_, _≤_, _<_, min}
 use native.Mathlib.Nat.{le-refl, suc-mul, zero-mul, mul-comm, mul-le-mul-right, mod-lt, le-trans}
 use native.Mathlib.Omega.{arith}
-use mathlib.Core.Bool.{Bool, true, false, not, _&&_}
-use mathlib.Core.List.{List, [], _∷_, _++_}
+use mathlib.Core.Bool.{Bool, true, false, _&&_}
 use lib.Dec.{eqb, leb, ltb, lit≤}
 use lib.Pow.{pow-pos}
 use lib.Bits.{bitOr}
 use lib.Count.{ones}
 use lib.Ieee.{Float, lt}
-use borrow.Author.Tests.{eqb-true, eqb-false, ltb-true, ltb-false, leb-true, leb-false}
-use Rattle.rules.specs.Rule.{if_then_else_, Rule, give, refuse, _>>=_}
-use Rattle.random.specs.Generator.{between, unit}
+use borrow.Author.Tests.{eqb-true, ltb-true, ltb-false, leb-true, leb-false}
+use Rattle.rules.specs.Rule.{if_then_else_, _>>=_}
+use Rattle.random.specs.Generator.{between}
 use Rattle.random.specs.Laws.Range.{between-lt}
 use Rattle.mania.specs.declared.SliderNote.{SliderNote}
 use Rattle.mania.specs.declared.Note.{Note}
-use Rattle.mania.specs.declared.Next.the-variants.{Draw}
 use Rattle.mania.specs.declared.PathObjectPatternGenerator.{PathObjectPatternGenerator}
 use Rattle.mania.specs.Steps.{double}
-use Rattle.mania.specs.Sound.{whistle, finish, clap, hasFlag}
 use Rattle.mania.specs.PatternType.{forceNotStack, contains}
-use Rattle.mania.specs.Made.{Made}
-use Rattle.mania.specs.Pattern.{Pattern, empty, put, add}
-use Rattle.mania.specs.PatternGenerator.{randomStart, getColumn, getRandomColumn, findAvailableColumn}
+use Rattle.mania.specs.Pattern.{Pattern, empty, put}
+use Rattle.mania.specs.PatternGenerator.{randomStart}
 use Rattle.mania.specs.PathObject
 use Rattle.mania.specs.Demand.{Each, EveryTwo, Lanes}
-use Rattle.mania.proofs.Masks.{bit, or-bit, or-left, or-own, own-bit, or-free-left, or-free-right}
-use Rattle.mania.proofs.Makes.{Makes, giving, refusing, seq, less, by, valued, added, each-snoc, each-map, two-snoc, two-map}
+use Rattle.mania.proofs.Masks.{bit, or-bit, or-left, or-own, or-free-left}
+use Rattle.mania.proofs.Makes.{Makes, giving, refusing, seq, less, by, valued, added, each-snoc, each-map, two-snoc}
 use Rattle.mania.proofs.Columns.{between-ge, find-draw, column-makes, counted}
 use Rattle.mania.proofs.Bars.{Off, split-lanes, split-each}
 

@@ -1,6 +1,5 @@
 -- The chart of an accepted job: its notes in order, and its bytes. Assumes nothing.
 use Prim.Native.Nat.{ℕ}
-use mathlib.Core.Bool.{Bool}
 use mathlib.Core.List.{List, [], _∷_, _++_, map}
 use lib.Ieee.{binary64, lt, toBits}
 use lib.ListN.{length, drop}

@@ -1,6 +1,6 @@
 -- convert/mod.rs: the seed, the column count and the walk over a song's objects. Assumes nothing.
 use Prim.Native.Nat.{ℕ, zero, suc, _+_, _*_, min, max}
-use mathlib.Core.Bool.{Bool, _||_}
+use mathlib.Core.Bool.{_||_}
 use mathlib.Core.List.{List, [], _∷_}
 use lib.Dec.{eqb, leb, ltb}
 use lib.Ieee.{Float, binary32, binary64, add, mul, div, lt}
@@ -11,7 +11,6 @@ use Rattle.floats.specs.Whole.{count}
 use Rattle.floats.specs.declared.Way.the-variants.{Cut, Even}
 use Rattle.model.specs.declared.Settings.{Settings}
 use Rattle.model.specs.declared.Position.{Position}
-use Rattle.model.specs.declared.Distance.{Distance}
 use Rattle.model.specs.declared.Kind.{Kind}
 use Rattle.model.specs.declared.Kind.the-variants.{Circle, Slider, Spinner, Hold}
 use Rattle.model.specs.declared.Object.{Object}

@@ -1,6 +1,6 @@
 -- What demand 3 speaks of: draws, lanes and the deck. Assumes nothing.
 use mathlib.Core.Path.{_≡_}
-use Prim.Native.Nat.{ℕ, _+_, _*_, _/_, _^_, _≤_, _<_}
+use Prim.Native.Nat.{ℕ, _+_, _≤_, _<_}
 use mathlib.Core.List.{List, [], _∷_}
 use Rattle.rules.specs.Refusal.{spentNumber}
 use Rattle.rules.specs.Rule.{taken, if_then_else_}

@@ -1,11 +1,11 @@
 -- pattern_generator/end_time_object.rs: a spinner or a hold. Assumes nothing.
 use Prim.Native.Nat.{ℕ}
-use mathlib.Core.Bool.{Bool, true, _&&_}
+use mathlib.Core.Bool.{true, _&&_}
 use lib.Dec.{eqb}
 use lib.Count.{ones}
 use lib.Ieee.{Float, binary64, le, lt}
 use lib.Ieee as Ieee
-use Rattle.rules.specs.Rule.{Rule, give, _>>=_, if_then_else_}
+use Rattle.rules.specs.Rule.{give, _>>=_, if_then_else_}
 use Rattle.rules.specs.Refusal.{ObjectRule}
 use Rattle.mania.specs.declared.PrevValues.{PrevValues}
 use Rattle.model.specs.declared.Object.{Object}
@@ -14,7 +14,7 @@ use Rattle.mania.specs.declared.Next.the-variants.{Draw}
 use Rattle.mania.specs.Steps.{double}
 use Rattle.mania.specs.Sound.{finish, hasFlag}
 use Rattle.mania.specs.Made.{Made, circle}
-use Rattle.mania.specs.Pattern.{Pattern, empty, add}
+use Rattle.mania.specs.Pattern.{empty, add}
 use Rattle.mania.specs.PatternGenerator.{randomStart, getRandomColumn, findAvailableColumn}
 
 -- `end_time - start_time`, where `end_time` is start + duration; two roundings, so it need not be the duration

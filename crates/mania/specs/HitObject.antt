@@ -1,6 +1,6 @@
 -- pattern_generator/hit_object.rs: a circle. Assumes nothing.
 use Prim.Native.Nat.{ℕ, zero, suc, _+_, _-_, _/_, _%_, min}
-use mathlib.Core.Bool.{Bool, true, false, not, _&&_, _||_}
+use mathlib.Core.Bool.{Bool, not, _&&_, _||_}
 use mathlib.Core.List.{List, [], _∷_}
 use lib.Dec.{eqb, ltb}
 use lib.Bits.{bitOr}
@@ -8,7 +8,7 @@ use lib.Count.{ones}
 use lib.Ieee.{Float, binary32, binary64, le, lt}
 use lib.Ieee as Ieee
 use lib.ListN.{getD}
-use Rattle.rules.specs.Rule.{Rule, give, _>>=_, if_then_else_}
+use Rattle.rules.specs.Rule.{give, _>>=_, if_then_else_}
 use Rattle.rules.specs.Refusal.{ObjectRule}
 use Rattle.random.specs.Generator.{unit}
 use Rattle.random.specs.Play.{value}
@@ -28,7 +28,7 @@ use Rattle.mania.specs.Sound.{finish, clap, hasFlag}
 use Rattle.mania.specs.PatternType.{forceStack, forceNotStack, keepSingle, lowProbability, gathered, mirror, reverse, cycle, stair, reverseStair, stairBit, _⊔ₜ_, contains}
 use Rattle.mania.specs.Made.{Made, circle}
 use Rattle.mania.specs.Pattern.{Pattern, free, empty, add}
-use Rattle.mania.specs.PatternGenerator.{randomStart, getColumn, noteCount, getRandomNoteCount, getRandomColumn, findAvailableColumn}
+use Rattle.mania.specs.PatternGenerator.{randomStart, getColumn, getRandomNoteCount, getRandomColumn, findAvailableColumn}
 
 -- ---- the convert type
 

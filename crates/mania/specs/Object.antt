@@ -1,6 +1,5 @@
 -- The rule of one object, for the walk and for the single-object entry. Assumes nothing.
 use Prim.Native.Nat.{ℕ}
-use Rattle.rules.specs.Rule.{Rule}
 use Rattle.rules.specs.Refusal.{ObjectRule}
 use Rattle.mania.specs.declared.Facts.{Facts}
 use Rattle.mania.specs.declared.PrevValues.{PrevValues}

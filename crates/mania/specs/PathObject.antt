@@ -1,14 +1,14 @@
 -- pattern_generator/path_object.rs: a slider, in whole milliseconds. Assumes nothing.
 use Prim.Native.Nat.{ℕ, zero, suc, _+_, _-_, _*_, _/_, _^_, min}
-use mathlib.Core.Bool.{Bool, true, false, not, _&&_, _||_}
+use mathlib.Core.Bool.{Bool, true, not, _&&_, _||_}
 use mathlib.Core.List.{List, [], _∷_, _++_, map}
 use lib.Dec.{eqb, leb, ltb}
 use lib.Bits.{bitOr}
 use lib.Count.{ones}
-use lib.Ieee.{Float, binary32, binary64, neg, le, lt}
+use lib.Ieee.{Float, binary64, neg, lt}
 use lib.Ieee as Ieee
 use lib.ListN.{length, getD}
-use Rattle.rules.specs.Rule.{Rule, give, refuse, _>>=_, if_then_else_}
+use Rattle.rules.specs.Rule.{give, refuse, _>>=_, if_then_else_}
 use Rattle.rules.specs.Refusal.{ObjectRule, lateEnd}
 use Rattle.random.specs.Generator.{between, unit}
 use Rattle.random.specs.Play.{value}

@@ -4,7 +4,7 @@ use mathlib.Core.Bool.{Bool, false, _||_}
 use mathlib.Core.List.{List, [], _∷_, _++_}
 use lib.Dec.{eqb, ltb}
 use lib.Bits.{bitOr}
-use Rattle.rules.specs.Rule.{Rule, give, refuse, if_then_else_}
+use Rattle.rules.specs.Rule.{give, refuse, if_then_else_}
 use Rattle.rules.specs.Refusal.{ObjectRule, offDeck}
 
 -- A mask has bit c set where column c is taken. `column_has_obj`, the other way round: column c is free

@@ -1,12 +1,11 @@
 -- pattern_generator/mod.rs, and `find_available_column` of the three generators. Assumes nothing.
 use Prim.Native.Nat.{ℕ, zero, suc, _+_, _-_}
-use mathlib.Core.Bool.{Bool}
-use mathlib.Core.List.{List, [], _∷_}
+use mathlib.Core.List.{List}
 use lib.Dec.{eqb}
 use lib.IntN.{ℤ, pos, negsuc}
 use lib.Ieee.{Float, binary32, binary64, ofInt, add, sub, mul, div, le}
-use lib.ListN.{length, getD}
-use Rattle.rules.specs.Rule.{Rule, give, refuse, drawUntil, _>>=_, if_then_else_}
+use lib.ListN.{length}
+use Rattle.rules.specs.Rule.{give, refuse, drawUntil, _>>=_, if_then_else_}
 use Rattle.rules.specs.Refusal.{ObjectRule, noColumn}
 use Rattle.random.specs.Generator.{between, unit}
 use Rattle.random.specs.Play.{value}

@@ -1,12 +1,12 @@
 -- The single-object entry: its checks, and what it gives. Assumes nothing.
-use Prim.Native.Nat.{ℕ, zero, suc, _*_, _^_}
-use mathlib.Core.Bool.{Bool, true, false, not, _&&_, _||_}
+use Prim.Native.Nat.{ℕ, _*_, _^_}
+use mathlib.Core.Bool.{Bool, true, not, _&&_}
 use mathlib.Core.List.{List}
 use lib.Dec.{eqb, leb, ltb}
 use lib.Ieee.{neg, le}
 use lib.Ieee.Scale.{finite}
 use lib.ListN.{length}
-use Rattle.rules.specs.Rule.{Rule, Outcome, ended, refused, spent, give, refuse, run, _>>=_, if_then_else_}
+use Rattle.rules.specs.Rule.{Outcome, ended, refused, spent, give, refuse, run, _>>=_, if_then_else_}
 use Rattle.rules.specs.Refusal.{Refusal, tooShort, number, spentNumber, ObjectRule}
 use Rattle.floats.specs.Range.{inRange}
 use Rattle.random.specs.Generator.{values, steps}

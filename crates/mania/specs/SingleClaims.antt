@@ -1,10 +1,10 @@
 -- What is claimed of the single-object entry. Assumes nothing.
 use mathlib.Core.Path.{_≡_}
-use Prim.Native.Nat.{ℕ, _+_, _*_, _^_, _≤_, _<_}
-use mathlib.Core.List.{List, []}
+use Prim.Native.Nat.{ℕ, _*_, _^_, _≤_, _<_}
+use mathlib.Core.List.{List}
 use lib.Dec.{eqb}
 use lib.ListN.{length}
-use Rattle.rules.specs.Rule.{Outcome, ended, refused, spent, run, taken, if_then_else_}
+use Rattle.rules.specs.Rule.{Outcome, ended, spent, run, taken, if_then_else_}
 use Rattle.rules.specs.Refusal.{Refusal, spentNumber}
 use Rattle.random.specs.Generator.{values, steps}
 use Rattle.random.specs.declared.Random.{Random}
@@ -16,7 +16,7 @@ use Rattle.mania.specs.declared.Stair.{Stair}
 use Rattle.mania.specs.Made.{Made}
 use Rattle.mania.specs.Object.{object}
 use Rattle.mania.specs.Chart.{body, written}
-use Rattle.mania.specs.Single.{Answer, made, refusal, Single, withRoom, entryRefusal, singleObject}
+use Rattle.mania.specs.Single.{made, refusal, Single, withRoom, entryRefusal, singleObject}
 use Rattle.mania.specs.Refusals.{Late, Blocked, Below}
 use Rattle.mania.specs.Demand.{Each, Lanes, OnDeck}
 

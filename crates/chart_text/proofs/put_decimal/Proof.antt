@@ -1,6 +1,5 @@
 -- -- `chart_text::put_decimal` meets its contract: as many digits are stored as the number has. Assumes nothing.
 use mathlib.Core.Path.{_≡_, _∙_}
-use Prim.Native.Nat.{_+_}
 use native.Mathlib.Omega.{arith}
 use lib.Dec.{ltb}
 use Rattle.chart_text.specs.Text.{places, decimal}

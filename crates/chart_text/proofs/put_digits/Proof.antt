@@ -1,7 +1,7 @@
 -- `chart_text::put_digits` meets its contract. The invariant: the digits from index i on are stored, and rest has those before. The measure is i.
 -- Assumes nothing.
-use mathlib.Core.Path.{_≡_, refl, sym, _∙_}
-use Prim.Native.Nat.{_+_, _-_, _≤_, _<_}
+use mathlib.Core.Path.{_≡_, refl, _∙_}
+use Prim.Native.Nat.{_+_, _≤_}
 use native.Mathlib.Nat.{add-zero, mod-lt}
 use native.Mathlib.Omega.{arith}
 use lib.ListN.{length, take, drop, length-set}

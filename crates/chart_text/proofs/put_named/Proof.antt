@@ -1,8 +1,6 @@
 -- -- `chart_text::put_named` meets its contract: the word and its number stand side by side (`wrote-next`). Assumes nothing.
-use mathlib.Core.Path.{_∙_}
-use native.Mathlib.Omega.{arith}
 use Rattle.chart_text.specs.Text.{decimal, named}
-use Rattle.chart_text.specs.Laws.{wrote-first, wrote-next, length-hex}
+use Rattle.chart_text.specs.Laws.{wrote-first, wrote-next}
 use borrow.Author.Needs.{needs}
 use Rattle.chart_text.proofs.put_named.Statement.{statement}
 use Rattle.chart_text.proofs.put_named.Tie as tie

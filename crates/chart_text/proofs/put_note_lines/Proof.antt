@@ -11,10 +11,6 @@ use Rattle.chart.specs.Laws.Bytes.{splice-none}
 use Rattle.chart_text.specs.Laws.{Wrote, wrote-first, wrote-next, lines-none, lines-more}
 use Rattle.chart_text.proofs.put_note_lines.Statement.{statement}
 use Rattle.chart_text.proofs.put_note_lines.Tie as tie
-use Rattle.chart_text.proofs.put_note_lines.Reads as reads
-use Rattle.chart_text.proofs.put_note_lines.Lts as lts
-use Rattle.chart.proofs.rows.note_at.Reads as note-at-reads
-use Rattle.chart_text.proofs.put_note_line.Reads as put-note-line-reads
 
 abbrev Inv-loop : tie.InvT-loop
 Inv-loop chart count s₀ at next₀ i₀ s next i =

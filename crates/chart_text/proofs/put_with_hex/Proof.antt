@@ -1,6 +1,5 @@
 -- -- `chart_text::put_with_hex` meets its contract: the word and its bit pattern stand side by side (`wrote-next`). Assumes nothing.
 use mathlib.Core.Path.{_∙_}
-use native.Mathlib.Omega.{arith}
 use Rattle.chart_text.specs.Text.{hex, withHex}
 use Rattle.chart_text.specs.Laws.{wrote-first, wrote-next, length-hex}
 use borrow.Author.Needs.{needs}

@@ -2,7 +2,7 @@
 use borrow.Author.Needs.{needs}
 use mathlib.Core.Path.{sym, ap, _∙_, subst}
 use lib.Dec.{T}
-use lib.Ieee.{Float, binary32}
+use lib.Ieee.{binary32}
 use lib.Ieee.Bits.{ofBits-toBits}
 use lib.Ieee.Compare.{differs-from-itself}
 use Rattle.floats.specs.Range.{inRange}

@@ -3,7 +3,7 @@
 use mathlib.Core.Path.{_≡_, refl, sym, _∙_}
 use Prim.Native.Nat.{ℕ, zero, suc, _+_, _*_, _≤_, _<_}
 use mathlib.Core.Bool.{Bool, true, false, _&&_, _||_}
-use native.Mathlib.Nat.{mul-le-mul-right, mul-pos, le-of-mul-le-mul-right, le-of-lt}
+use native.Mathlib.Nat.{mul-le-mul-right, le-of-mul-le-mul-right, le-of-lt}
 use native.Mathlib.Omega.{arith}
 use lib.Dec.{ltb, eqb, lit<}
 use lib.Pow.{pow-pos}

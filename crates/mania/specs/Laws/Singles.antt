@@ -1,15 +1,13 @@
 -- The single-object entry, from what its object's rule came to from the state that was lent. Assumes nothing.
-use mathlib.Core.Path.{_≡_, refl, sym, ap, ap₂, _∙_, subst}
-use Prim.Native.Nat.{ℕ, zero, suc, _-_, _*_, _≤_}
-use native.Mathlib.Omega.{arith}
-use mathlib.Core.Bool.{Bool, true, false}
+use mathlib.Core.Path.{_≡_, refl, sym, ap, _∙_}
+use Prim.Native.Nat.{ℕ, _-_, _*_}
+use mathlib.Core.Bool.{true, false}
 use mathlib.Core.List.{List}
-use lib.Dec.{eqb, ltb}
+use lib.Dec.{ltb}
 use lib.ListN.{length}
 use borrow.Author.Tests.{eq-eqb, ne-eqb}
-use Rattle.rules.specs.Rule.{Outcome, ended, spent, run, refuse, give, if_then_else_}
-use Rattle.rules.specs.Rule as Rule
-use Rattle.rules.specs.Refusal.{Refusal, tooShort, number, spentNumber, ObjectRule}
+use Rattle.rules.specs.Rule.{ended, run}
+use Rattle.rules.specs.Refusal.{number, spentNumber, ObjectRule}
 use Rattle.random.specs.Generator.{values, steps}
 use Rattle.random.specs.Play.{Answer, found, refused, on, play}
 use Rattle.random.specs.declared.Random.{Random}
@@ -23,7 +21,7 @@ use Rattle.mania.specs.declared.PrevValues.{PrevValues}
 use Rattle.mania.specs.Made.{Made}
 use Rattle.mania.specs.Object.{object}
 use Rattle.mania.specs.Chart.{body, written}
-use Rattle.mania.specs.Single.{made, Single, withRoom, entryRefusal, refusing, ending, singleObject}
+use Rattle.mania.specs.Single.{made, withRoom, entryRefusal, refusing, ending, singleObject}
 
 -- where a rule ended, the state has made as many steps as draws are gone
 module _ {A : Type 0} (m : ObjectRule A) (d : Draws) where

@@ -1,15 +1,15 @@
 -- The walk, one object at a time: for a loop over the objects that keeps the notes made so far; a job, from how its walk ended; and bytes put at a
 -- buffer's start. Assumes nothing.
 use mathlib.Core.Path.{_≡_, refl, sym, ap, _∙_}
-use Prim.Native.Nat.{ℕ, zero, suc, _+_, _-_, _*_}
+use Prim.Native.Nat.{ℕ, suc, _+_, _-_, _*_}
 use native.Mathlib.Nat.{zero-add}
 use mathlib.Core.Bool.{Bool, true, false}
 use mathlib.Core.List.{List, [], _∷_, _++_, append-assoc, append-nil}
 use lib.Dec.{ltb}
 use lib.Ieee.{Float}
 use lib.ListN.{length}
-use Rattle.rules.specs.Rule.{Rule, give, refuse, label, _>>=_, if_then_else_, ended}
-use Rattle.rules.specs.Refusal.{Refusal, number, spentNumber, ObjectRule}
+use Rattle.rules.specs.Rule.{give, label, _>>=_, ended}
+use Rattle.rules.specs.Refusal.{number, spentNumber, ObjectRule}
 use Rattle.random.specs.Generator.{seeded}
 use Rattle.random.specs.Play.{Answer, found, refused, on, play}
 use Rattle.random.specs.declared.Draws.{Draws}
@@ -26,9 +26,9 @@ use Rattle.mania.specs.Made.{Made}
 use Rattle.mania.specs.LimitedQueue.{Density}
 use Rattle.mania.specs.Object.{object}
 use Rattle.mania.specs.Chart.{written}
-use Rattle.mania.specs.Convert.{Walk, AtObject, at, seed, columnsOf, meets, factsAt, afterObject, objectIn, walk, convert}
+use Rattle.mania.specs.Convert.{Walk, at, seed, columnsOf, meets, factsAt, afterObject, objectIn, walk, convert}
 use Rattle.mania.specs.Walked.{Stop, stop, spentAt, refusedAt, onWalk}
-use Rattle.mania.specs.Job.{Job, ending, refusing, under, job}
+use Rattle.mania.specs.Job.{ending, refusing, under, job}
 
 -- ---- an object's rule in a walk
 

@@ -2,7 +2,6 @@
 use mathlib.Core.Path.{_≡_, sym, ap, _∙_}
 use Rattle.random.specs.Play.{found, play, on, value}
 use Rattle.random.specs.Answers.{drawn}
-use Rattle.random.specs.Laws.Took.{took-small}
 use Rattle.random.specs.Laws.On.{found-bind, refused-bind}
 use Rattle.mania.specs.PatternGenerator.{getRandomNoteCount}
 use borrow.Author.Needs.{needs}

@@ -9,7 +9,7 @@ use Rattle.rules.specs.Rule.{Rule, Outcome, ended, spent, run, taken, Done}
 use Rattle.rules.specs.Rule as Rule
 use Rattle.rules.specs.Laws.Cut.{Within, run-within, done-within, same-start, too-few, spent-whole}
 use Rattle.random.specs.Generator.{next, low, values, steps}
-use Rattle.random.specs.Play.{Answer, found, refused, play}
+use Rattle.random.specs.Play.{found, refused, play}
 use Rattle.random.specs.Lawful.{Lawful}
 use Rattle.random.specs.declared.Random.{Random}
 use Rattle.random.specs.declared.Draws.{Draws}

@@ -3,7 +3,7 @@ use mathlib.Core.Path.{_≡_}
 use Prim.Native.Nat.{ℕ}
 use Rattle.rules.specs.Rule.{_>>=_}
 use Rattle.rules.specs.Refusal.{ObjectRule, number, spentNumber}
-use Rattle.random.specs.Play.{Answer, found, refused, on}
+use Rattle.random.specs.Play.{found, refused, on}
 use Rattle.random.specs.declared.Draws.{Draws}
 use Rattle.random.specs.Laws.Gives.{Gives, play-gave}
 use Rattle.random.specs.Laws.Play as Play

@@ -5,8 +5,8 @@ use native.Mathlib.Nat.{mod-lt, pos-of-ne-zero}
 use native.Mathlib.Omega.{arith}
 use mathlib.Core.Bool.{Bool}
 use lib.Pow.{pow-pos}
-use Rattle.rules.specs.Rule.{if_then_else_, Rule, drawUntil}
-use Rattle.rules.specs.Refusal.{Refusal, ObjectRule, number, spentNumber}
+use Rattle.rules.specs.Rule.{if_then_else_, drawUntil}
+use Rattle.rules.specs.Refusal.{ObjectRule, number, spentNumber}
 use Rattle.random.specs.Generator.{next, low}
 use Rattle.random.specs.Play.{found, refused, play, on, value}
 use Rattle.random.specs.declared.Random.{Random}

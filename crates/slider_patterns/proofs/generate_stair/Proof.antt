@@ -11,7 +11,6 @@ use Rattle.pattern.specs.Laws.Words.{empty-is}
 use Rattle.slider_patterns.proofs.Bounds.{places, stops}
 use lib.Ieee.{round, ofBits}
 use Rattle.random.specs.Answers.{drawn}
-use Rattle.random.specs.Laws.Took.{took-small}
 use Rattle.slider_patterns.proofs.generate_stair.Statement.{statement}
 use Rattle.slider_patterns.proofs.generate_stair.Tie as tie
 

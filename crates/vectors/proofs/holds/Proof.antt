@@ -1,9 +1,8 @@
 -- `vectors::holds` is safe and ends. The invariant has the bound of the index; the measure is what is left of the buffer.
 -- Assumes nothing.
-use mathlib.Core.Path.{_≡_, refl}
 use Prim.Native.Nat.{_-_, _≤_}
 use native.Mathlib.Omega.{arith}
-use lib.ListN.{length, length-set}
+use lib.ListN.{length}
 use Rattle.vectors.proofs.holds.Statement.{statement}
 use Rattle.vectors.proofs.holds.Tie as tie
 

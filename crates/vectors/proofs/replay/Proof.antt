@@ -1,7 +1,7 @@
 -- `vectors::replay` is safe and ends. The invariant keeps the buffer's length; the measure is what is left of the list.
 -- Assumes nothing.
 use mathlib.Core.Path.{_≡_, refl, _∙_}
-use Prim.Native.Nat.{_-_, _≤_}
+use Prim.Native.Nat.{_-_}
 use native.Mathlib.Omega.{arith}
 use lib.ListN.{length}
 use Rattle.vectors.proofs.replay.Statement.{statement}
