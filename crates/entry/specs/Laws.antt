@@ -3,8 +3,8 @@ use mathlib.Core.Path.{_≡_, refl, sym, subst}
 use Prim.Native.Nat.{ℕ, _^_, _≤_, _<_}
 use native.Mathlib.Omega.{arith}
 use mathlib.Core.Bool.{Bool, true, false, not, _&&_}
-use borrow.Author.Tests.{eqb-true, ltb-true, leb-true}
-use lib.Dec.{T, eqb, leb, ltb, lit<, lit≤}
+use borrow.Author.Tests.{ltb-true}
+use lib.Dec.{T, ltb, lit<, lit≤}
 use lib.Ieee.{binary64}
 use lib.Ieee.Back.{round-whole}
 use lib.Ieee.Scale.{finite}
@@ -18,28 +18,10 @@ use Rattle.model.specs.declared.Object.{Object}
 use Rattle.mania.specs.declared.Facts.{Facts}
 use Rattle.mania.specs.declared.PrevValues.{PrevValues}
 use Rattle.mania.specs.Steps.{double}
-use Rattle.mania.specs.Pattern.{free}
 use Rattle.mania.specs.Range.{FewRepeats, InRange}
+use Rattle.mania.specs.Laws.Tests.{two, three, four}
+use Rattle.mania.specs.Laws.Singles.{pattern-fits}
 use Rattle.mania.specs.Single.{patternFits, settingsFit, pointsFit, positionFits, distanceFits, nodeFits, kindFits, objectFits, entryRefusal}
-use Rattle.entry.specs.Parts.{lastFits}
-
--- ---- tests
-
-two : (a b : Bool) → (a && b) ≡ true → (a ≡ true) × (b ≡ true)
-two true b e = (refl, e)
-two false b e = absurd (subst T (sym e) tt)
-
-three : (a b c : Bool) → (a && b && c) ≡ true → (a ≡ true) × (b ≡ true) × (c ≡ true)
-three a b c e =
-    let t = two (a && b) c e in
-    let u = two a b (t .0) in
-    (u .0, u .1, t .1)
-
-four : (a b c d : Bool) → (a && b && c && d) ≡ true → (a ≡ true) × (b ≡ true) × (c ≡ true) × (d ≡ true)
-four a b c d e =
-    let t = two (a && b && c) d e in
-    let u = three a b c (t .0) in
-    (u .0, u .1, u .2, t .1)
 
 -- a row of checks
 passed : (b : Bool) (n r : ℕ) → 0 < n → (if not b then n else r) ≡ 0 → (b ≡ true) × (r ≡ 0)
@@ -73,22 +55,6 @@ object-in f v o e =
       repeats = few-repeats (o .kind) (t .1);
     }
 
-last-in : (b : Bool) (last columns : ℕ) (t : Bool) → 1 ≤ columns → (if b then eqb last 0 else ltb last columns && t) ≡ true → last < columns
-last-in true last columns t h e = let z = eqb-true last 0 e in omega arith
-last-in false last columns t h e = ltb-true last columns (two (ltb last columns) t e .0)
-
-pattern-in : (v : PrevValues) (columns : ℕ) → patternFits v columns ≡ true
-    → (1 ≤ columns) × (columns ≤ 9) × (v .mask < 2 ^ columns) × (v .last < columns)
-unfolding patternFits lastFits
-pattern-in v columns e =
-    let t = four (leb 1 columns) (leb columns 9) (ltb (v .mask) (2 ^ columns)) (lastFits (v .mask) (v .last) columns) e in
-    let low = leb-true 1 columns (t .0) in (
-      low,
-      leb-true columns 9 (t .1),
-      ltb-true (v .mask) (2 ^ columns) (t .2),
-      last-in (eqb (v .mask) 0) (v .last) columns (not (free (v .mask) (v .last))) low (t .3),
-    )
-
 -- ---- all of them
 
 -- the columns, the previous pattern on them, and the object's range
@@ -105,5 +71,5 @@ checked f v columns o e =
     let p = passed (patternFits v columns) 13 _ (lit< tt) e in
     let s = passed (settingsFit f) 4 _ (lit< tt) (p .1) in
     let t = passed (pointsFit f) 5 _ (lit< tt) (s .1) in
-    let k = pattern-in v columns (p .0) in
-    record { low = k .0; high = k .1; mask = k .2; last = k .3; range = object-in f v o (passed (objectFits f v o) 6 0 (lit< tt) (t .1) .0) }
+    let k = pattern-fits v columns (p .0) in
+    record { low = k .some; high = k .deck; mask = k .mask; last = k .last; range = object-in f v o (passed (objectFits f v o) 6 0 (lit< tt) (t .1) .0) }

@@ -14,7 +14,7 @@ use lib.Ieee.Fits.{round-is, round-fits, ofInt-fits}
 use lib.Ieee.Positive.{num, den, den-pos, value→cross}
 use Rattle.rules.specs.Rule.{if_then_else_}
 use Rattle.floats.specs.Narrow.{narrowed}
-use Rattle.floats.specs.Laws.Values.{Sized, sized, mul-at-most, div-at-most, div-value, round-at-most, sum-at-most, add-ge}
+use Rattle.floats.specs.Laws.Values.{Sized, UpTo, sized, mul-at-most, div-at-most, div-value, round-at-most, sum-at-most, add-ge}
 use Rattle.floats.specs.Laws.Spans.{AtLeast}
 use Rattle.floats.specs.Laws.Wholes.{count-lt, count-ge}
 use Rattle.floats.specs.declared.Way.the-variants.{Floor, Even}
@@ -31,17 +31,13 @@ use Rattle.mania.specs.Demand.{Each}
 use Rattle.job.proofs.Times.{Span}
 use Rattle.job.proofs.Ranges.{FitDistance}
 
--- a number from 0 to n
-abbrev Upto : ℕ → Float → Type 0
-Upto n x = Sized x × (num x ≤ n * den x)
-
-whole-upto : (f : Format) (m n : ℕ) → m ≤ 2 ^ prec f → m ≤ n → Upto n (round f false m 1)
+whole-upto : (f : Format) (m n : ℕ) → m ≤ 2 ^ prec f → m ≤ n → UpTo n (round f false m 1)
 whole-upto f m n h k =
     let x = round f false m 1 in
     let v = round-whole f false m h in
-    (sized x m 1 v, le-trans (le-of-eq (sym (mul-one (num x)) ∙ value→cross x m 1 v)) (mul-le-mul-right (den x) k))
+    record { size = sized x m 1 v; high = le-trans (le-of-eq (sym (mul-one (num x)) ∙ value→cross x m 1 v)) (mul-le-mul-right (den x) k) }
 
-pick : (n : ℕ) (b : Bool) (x y : Float) → Upto n x → Upto n y → Upto n (if b then x else y)
+pick : (n : ℕ) (b : Bool) (x y : Float) → UpTo n x → UpTo n y → UpTo n (if b then x else y)
 pick n true x y h k = h
 pick n false x y h k = k
 
@@ -58,9 +54,7 @@ beat-from beat (p ∷ ps) time h k = go (le (p .time) time) (beat-from (p .beat)
 
 pub beat-at : (ps : List TimingPoint) (time : Float) → Each (λ (t : TimingPoint). Span 60000 (t .beat)) ps → Span 60000 (beatAt ps time)
 unfolding beatAt
-beat-at [] time k =
-    let u = whole-upto binary64 1000 60000 (lit≤ tt) (lit≤ tt) in
-    record { exact = round-fits binary64 false 1000 1; range = record { size = u .0; high = u .1 } }
+beat-at [] time k = record { exact = round-fits binary64 false 1000 1; range = whole-upto binary64 1000 60000 (lit≤ tt) (lit≤ tt) }
 beat-at (p ∷ ps) time k = beat-from (p .beat) ps time (k .0) (k .1)
 
 velocity-from : (v : Float) (ps : List DifficultyPoint) (time : Float) → AtLeast 10 v → Each (λ (t : DifficultyPoint). AtLeast 10 (t .velocity)) ps → AtLeast 10 (velocityFrom v ps time)
@@ -115,7 +109,7 @@ module _ (velocity beat : Float) (h : AtLeast 10 velocity) (k : Span 60000 beat)
   positive : 0 < num velocity
   positive = some-num 10 (num velocity) (den velocity) (den-pos velocity) (h .low)
 
-  back : Upto 1000 (neg asBeat)
+  back : UpTo 1000 (neg asBeat)
   back =
       let e : asBeat ≡ round binary64 true (100 * den velocity) (num velocity * 1) =
       div-value binary64 (neg (double 100 1)) velocity true false 100 1 (num velocity) (den velocity) (lit< tt) (den-pos velocity) positive minus-hundred (h .size) in
@@ -128,23 +122,23 @@ module _ (velocity beat : Float) (h : AtLeast 10 velocity) (k : Span 60000 beat)
       reach : (N D : ℕ) → D ≤ 10 * N → 100 * D ≤ 1000 * (N * 1)
       reach N D l = omega arith
 
-  narrow : Upto 10000 (narrowed (neg asBeat))
+  narrow : UpTo 10000 (narrowed (neg asBeat))
   narrow =
-      rw (narrowed-is (neg asBeat) (back .0))
-      (round-at-most binary32 (num (neg asBeat)) (den (neg asBeat)) 10000 (den-pos (neg asBeat)) (lit≤ tt) (le-trans (back .1) (mul-le-mul-right (den (neg asBeat)) (lit≤ tt))))
+      rw (narrowed-is (neg asBeat) (back .size))
+      (round-at-most binary32 (num (neg asBeat)) (den (neg asBeat)) 10000 (den-pos (neg asBeat)) (lit≤ tt) (le-trans (back .high) (mul-le-mul-right (den (neg asBeat)) (lit≤ tt))))
 
-  clamp : Upto 10000 (clamped (single 10 1) (single 10000 1) (narrowed (neg asBeat)))
+  clamp : UpTo 10000 (clamped (single 10 1) (single 10000 1) (narrowed (neg asBeat)))
   unfolding clamped
   clamp =
       let z = narrowed (neg asBeat) in
       pick 10000 (lt z (single 10 1)) _ _ (whole-upto binary32 10 10000 (lit≤ tt) (lit≤ tt))
       (pick 10000 (lt (single 10000 1) z) _ _ (whole-upto binary32 10000 10000 (lit≤ tt) (lit≤ tt)) narrow)
 
-  part : Upto 100 (div binary64 (clamped (single 10 1) (single 10000 1) (narrowed (neg asBeat))) (double 100 1))
+  part : UpTo 100 (div binary64 (clamped (single 10 1) (single 10000 1) (narrowed (neg asBeat))) (double 100 1))
   part =
       let z = clamped (single 10 1) (single 10000 1) (narrowed (neg asBeat)) in
-      rw (div-value binary64 z (double 100 1) false false (num z) (den z) 100 1 (den-pos z) (lit< tt) (lit< tt) (clamp .0) (round-whole binary64 false 100 (lit≤ tt)))
-      (round-at-most binary64 (num z * 1) (100 * den z) 100 (more (den-pos z)) (lit≤ tt) (reach (num z) (den z) (clamp .1)))
+      rw (div-value binary64 z (double 100 1) false false (num z) (den z) 100 1 (den-pos z) (lit< tt) (lit< tt) (clamp .size) (round-whole binary64 false 100 (lit≤ tt)))
+      (round-at-most binary64 (num z * 1) (100 * den z) 100 (more (den-pos z)) (lit≤ tt) (reach (num z) (den z) (clamp .high)))
     where
       more : {n : ℕ} → 0 < n → 0 < 100 * n
       more h = omega arith
@@ -152,24 +146,24 @@ module _ (velocity beat : Float) (h : AtLeast 10 velocity) (k : Span 60000 beat)
       reach : (N D : ℕ) → N ≤ 10000 * D → N * 1 ≤ 100 * (100 * D)
       reach N D l = omega arith
 
-  pub adjusted : Upto 6000000 (adjustedBeat velocity beat)
+  pub adjusted : UpTo 6000000 (adjustedBeat velocity beat)
   unfolding adjustedBeat
   adjusted =
       let m = pick 100 (lt asBeat (double 0 1)) _ _ part (whole-upto binary64 1 100 (lit≤ tt) (lit≤ tt)) in
-      mul-at-most binary64 beat _ 60000 100 (k .range .size) (m .0) (k .range .high) (m .1) (lit≤ tt)
+      mul-at-most binary64 beat _ 60000 100 (k .range) m (lit≤ tt)
 
 -- ---- the end
 
-distance-upto : (d : Distance) → FitDistance d → Upto 131072 (distanceOf d)
+distance-upto : (d : Distance) → FitDistance d → UpTo 131072 (distanceOf d)
 unfolding distanceOf
 distance-upto D.Missing h = whole-upto binary64 0 131072 (lit≤ tt) (lit≤ tt)
-distance-upto (D.Given d) h = (h .range .size, h .range .high)
+distance-upto (D.Given d) h = h .range
 
-hundredth-upto : Upto 1 (double 1 100)
+hundredth-upto : UpTo 1 (double 1 100)
 unfolding round
-hundredth-upto = ((refl, refl), lit≤ tt)
+hundredth-upto = record { size = (refl, refl); high = lit≤ tt }
 
-int-upto : (n k : ℕ) → n ≤ 2 ^ 53 → n ≤ k → Upto k (double# n)
+int-upto : (n k : ℕ) → n ≤ 2 ^ 53 → n ≤ k → UpTo k (double# n)
 unfolding ofInt
 int-upto n k h l = whole-upto binary64 n k h l
 
@@ -198,17 +192,17 @@ module _ (f : Facts) (o : Object) (spans : ℕ) (distance : Distance) (n : spans
   abbrev lasts : Float
   lasts = div binary64 (mul binary64 (mul binary64 path (double# spans)) (double 1 100)) (f .multiplier)
 
-  lasts-upto : Upto 2415919104000000 lasts
+  lasts-upto : UpTo 2415919104000000 lasts
   lasts-upto =
       let spans-small : spans ≤ 2 ^ 53 = le-trans n (lit≤ tt) in
       let d1 = distance-upto distance d in
       let a1 = adjusted (f .velocity) (f .beat) v b in
       let s1 = int-upto spans 1024 spans-small n in
-      let l1 = mul-at-most binary64 (distanceOf distance) (adjustedBeat (f .velocity) (f .beat)) 131072 6000000 (d1 .0) (a1 .0) (d1 .1) (a1 .1) (lit≤ tt) in
-      let l2 = mul-at-most binary64 path (double# spans) 786432000000 1024 (l1 .0) (s1 .0) (l1 .1) (s1 .1) (lit≤ tt) in
+      let l1 = mul-at-most binary64 (distanceOf distance) (adjustedBeat (f .velocity) (f .beat)) 131072 6000000 d1 a1 (lit≤ tt) in
+      let l2 = mul-at-most binary64 path (double# spans) 786432000000 1024 l1 s1 (lit≤ tt) in
       let y = mul binary64 path (double# spans) in
-      let l3 = mul-at-most binary64 y (double 1 100) 805306368000000 1 (l2 .0) (hundredth-upto .0) (l2 .1) (hundredth-upto .1) (lit≤ tt) in
-      div-at-most binary64 (mul binary64 y (double 1 100)) (f .multiplier) 805306368000000 3 (l3 .0) (m .size) (l3 .1)
+      let l3 = mul-at-most binary64 y (double 1 100) 805306368000000 1 l2 hundredth-upto (lit≤ tt) in
+      div-at-most binary64 (mul binary64 y (double 1 100)) (f .multiplier) 805306368000000 3 l3 (m .size)
       (some-num 3 (num (f .multiplier)) (den (f .multiplier)) (den-pos (f .multiplier)) (m .low)) (m .low) (lit≤ tt)
 
   pub not-before : start ≤ endTime f o spans distance
@@ -217,8 +211,8 @@ module _ (f : Facts) (o : Object) (spans : ℕ) (distance : Distance) (n : spans
       let x = double# start in
       let k = int-upto start (2 ^ 31) start-small (under start start-lt) in
       let S = add binary64 x lasts in
-      let t : Sized S = sum-at-most binary64 x lasts (ofInt-fits binary64 (pos start)) (k .0) (lasts-upto .0) (2 ^ 31) 2415919104000000 (k .1) (lasts-upto .1) (lit< tt) .0 in
-      let g : num x * den S ≤ num S * den x = add-ge binary64 x lasts (ofInt-fits binary64 (pos start)) (k .0) (lasts-upto .0) t in
+      let t : Sized S = sum-at-most binary64 x lasts (ofInt-fits binary64 (pos start)) (k .size) (lasts-upto .size) (2 ^ 31) 2415919104000000 (k .high) (lasts-upto .high) (lit< tt) .size in
+      let g : num x * den S ≤ num S * den x = add-ge binary64 x lasts (ofInt-fits binary64 (pos start)) (k .size) (lasts-upto .size) t in
       count-ge Floor S (num S) (den S) start (den-pos S) t start-lt
       (le-of-mul-le-mul-right (le-trans (le-of-eq (mul-right-comm start (den S) (den x) ∙ ap (λ (z : ℕ). z * den S) (sym (int-whole start start-small)))) g) (den-pos x))
     where

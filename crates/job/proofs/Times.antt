@@ -15,9 +15,8 @@ use lib.Ieee.Back.{round-whole}
 use lib.Ieee.Positive.{num, den, den-pos, value→cross}
 use borrow.Author.Tests.{lt-ltb, le-leb, eqb-false}
 use Rattle.rules.specs.Rule.{if_then_else_}
-use Rattle.floats.specs.Laws.Values.{Sized, sized, rest-sized, end-at-most}
+use Rattle.floats.specs.Laws.Values.{Sized, UpTo, sized, rest-sized, end-at-most}
 use Rattle.floats.specs.Laws.Ranges.{le-sizes}
-use Rattle.floats.specs.Laws.Spans.{UpTo}
 use Rattle.floats.specs.Laws.Integers.{int-value, sub-ints}
 use Rattle.floats.specs.Laws.Times.{ticks-value}
 use Rattle.floats.specs.Range.{inRange}

@@ -22,7 +22,8 @@ use Rattle.mania.specs.Pattern.{Pattern, free, empty, put, add}
 use Rattle.mania.specs.ManiaObject.{column}
 use Rattle.mania.specs.PatternGenerator.{randomStart, getColumn, getRandomNoteCount}
 use Rattle.mania.specs.HitObject
-use Rattle.mania.proofs.Columns.{and-l, and-r, start-le, start-small}
+use Rattle.mania.specs.Laws.Tests.{and-l, and-r}
+use Rattle.mania.proofs.Columns.{start-le, start-small}
 use Rattle.mania.proofs.Meets.{Meets, giving, refusing, seq, by, less, valued, added}
 use Rattle.mania.proofs.Frees.{frees, all-free, frees-put, frees-put-in, frees-past, room}
 use Rattle.mania.proofs.Searching.{never, In, search-in, search-by, any-in}

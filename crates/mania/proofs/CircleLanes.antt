@@ -21,7 +21,8 @@ use Rattle.mania.specs.HitObject
 use Rattle.mania.specs.Demand.{Apart, Each, EveryTwo, Lanes}
 use Rattle.mania.proofs.Masks.{bit, or-left, or-own, or-free-left}
 use Rattle.mania.proofs.Makes.{Makes, giving, seq, less, by, valued, added, each-snoc, each-map, two-snoc, two-map}
-use Rattle.mania.proofs.Columns.{and-l, between-ge, next-ge, start-le, start-small, find-draw, find-any, column-makes, within, counted}
+use Rattle.mania.specs.Laws.Tests.{and-l}
+use Rattle.mania.proofs.Columns.{between-ge, next-ge, start-le, start-small, find-draw, find-any, column-makes, within, counted}
 
 abbrev pub Differ : Note → Note → Type 0
 Differ n m = n .column ≡ m .column → ⊥

@@ -17,14 +17,6 @@ use Rattle.mania.specs.PatternGenerator.{randomStart, getColumn, getRand
 use Rattle.mania.proofs.Masks.{bit, free-bit}
 use Rattle.mania.proofs.Makes.{Makes, giving, refusing, seq, by, valued}
 
-pub and-l : (a b : Bool) → (a && b) ≡ true → a ≡ true
-and-l true b h = refl
-and-l false b h = h
-
-pub and-r : (a b : Bool) → (a && b) ≡ true → b ≡ true
-and-r true b h = h
-and-r false b h = let z : _≡_ {A = ℕ} 0 1 = ap (λ (t : Bool). if t then 1 else 0) h in absurd (omega arith)
-
 -- ---- ranges
 
 pub between-ge : (lower upper v : ℕ) → lower ≤ between lower upper v

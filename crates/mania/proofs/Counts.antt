@@ -295,11 +295,6 @@ module _ (columns : ℕ) (some : 1 ≤ columns) (deck : columns ≤ 9) where
   kind-few f v o (Spinner duration) h = end-few v columns o duration
   kind-few f v o (Hold duration) h = end-few v columns o duration
 
-  -- of an object's rule that was played
-  pub object-count : (f : Facts) (v : PrevValues) (o : Object) → FewRepeats (o .kind) → (d : Draws) (m : Made) (e : Draws) → on (object f v columns o) d ≡ found m e → length (m .notes) ≤ 2050
-  unfolding object
-  object-count f v o h d m e k = gives (λ (m : Made). length (m .notes) ≤ 2050) (object f v columns o) (kind-few f v o (o .kind) h .made) d m e k
-
   object-few : (room : ℕ) (f : Facts) (w : Walk) (o : Object) → FewRepeats (o .kind) → Makes (λ made. length (made .notes) ≤ 2050) (Convert.objectIn columns room f w o)
   unfolding Convert.objectIn object
   object-few room f w o h =

@@ -31,7 +31,8 @@ use Rattle.mania.specs.Single as Single
 use Rattle.mania.specs.Demand.{OnDeck}
 use Rattle.mania.specs.SingleClaims.{under, draws, entry, Gave, RefusedBy, Claims}
 use Rattle.mania.proofs.Makes.{ran}
-use Rattle.mania.proofs.Columns.{and-l, and-r}
+use Rattle.mania.specs.Laws.Tests.{and-l, and-r}
+use Rattle.mania.specs.Laws.Singles.{Fits, pattern-fits}
 use Rattle.mania.proofs.Meets as Meets
 use Rattle.mania.proofs.Meets.{Meets, refused-meets, ended-meets}
 use Rattle.mania.proofs.Conditions as Object
@@ -69,31 +70,6 @@ checks f v columns o e = go (patternFits v columns) (settingsFit f) (pointsFit f
     go true true false d e = omega arith
     go true true true false e = omega arith
     go true true true true e = omega arith
-
--- where all checks pass, the columns are 1 to 9, and mask and last column lie on them
-record Fits (v : PrevValues) (columns : ℕ) : Type 0 where
-  some : 1 ≤ columns
-  deck : columns ≤ 9
-  mask : v .mask < 2 ^ columns
-  last : v .last < columns
-
-last-fits : (v : PrevValues) (columns : ℕ) → 1 ≤ columns → (b : Bool) → (if b then eqb (v .last) 0 else ltb (v .last) columns && not (free (v .mask) (v .last))) ≡ true → v .last < columns
-last-fits v columns h true e = let z = eqb-true (v .last) 0 e in omega arith
-last-fits v columns h false e = ltb-true (v .last) columns (and-l (ltb (v .last) columns) (not (free (v .mask) (v .last))) e)
-
-pattern-fits : (v : PrevValues) (columns : ℕ) → patternFits v columns ≡ true → Fits v columns
-unfolding patternFits
-pattern-fits v columns e =
-    let rest = if eqb (v .mask) 0 then eqb (v .last) 0 else ltb (v .last) columns && not (free (v .mask) (v .last)) in
-    let first = and-l (leb 1 columns && leb columns 9 && ltb (v .mask) (2 ^ columns)) rest e in
-    let two = and-l (leb 1 columns && leb columns 9) (ltb (v .mask) (2 ^ columns)) first in
-    let one = leb-true 1 columns (and-l (leb 1 columns) (leb columns 9) two) in
-    record {
-      some = one;
-      deck = leb-true columns 9 (and-r (leb 1 columns) (leb columns 9) two);
-      mask = ltb-true (v .mask) (2 ^ columns) (and-r (leb 1 columns && leb columns 9) (ltb (v .mask) (2 ^ columns)) first);
-      last = last-fits v columns one (eqb (v .mask) 0) (and-r (leb 1 columns && leb columns 9 && ltb (v .mask) (2 ^ columns)) rest e);
-    }
 
 entry-fits : (f : Facts) (v : PrevValues) (columns : ℕ) (o : Object) → entryRefusal f v columns o ≡ 0 → Fits v columns
 unfolding entryRefusal

@@ -25,7 +25,7 @@ use Rattle.mania.specs.PatternGenerator.{randomStart, getColumn, getRand
 use Rattle.mania.specs.declared.Next.the-variants.{Draw}
 use Rattle.mania.specs.PathObject
 use Rattle.mania.specs.EndTimeObject
-use Rattle.mania.proofs.Columns.{and-r}
+use Rattle.mania.specs.Laws.Tests.{and-r}
 use Rattle.mania.proofs.Meets.{Meets, giving, refusing, seq, by, less, valued, added}
 use Rattle.mania.proofs.Frees.{frees, all-free, frees-one, frees-put, frees-put-in, other-bit, room}
 use Rattle.mania.proofs.Searching.{In, FreeIn, search, search-in, any-in}

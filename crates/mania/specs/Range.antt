@@ -1,6 +1,6 @@
 -- What a generator asks of an object's fields: a start of 0 to 16,777,215, and at most 1,023 repeats. Assumes nothing.
 use Prim.Native.Nat.{_≤_}
-use Rattle.floats.specs.Laws.Spans.{UpTo}
+use Rattle.floats.specs.Laws.Values.{UpTo}
 use Rattle.model.specs.declared.Kind.{Kind}
 use Rattle.model.specs.declared.Kind.the-variants.{Circle, Slider, Spinner, Hold}
 use Rattle.model.specs.declared.Object.{Object}

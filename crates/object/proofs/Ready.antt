@@ -4,7 +4,7 @@ use native.Mathlib.Nat.{div-mul-le-self}
 use native.Mathlib.Omega.{arith}
 use lib.Ieee.Positive.{num, den, den-pos}
 use Rattle.floats.specs.Laws.Wholes.{count-le}
-use Rattle.floats.specs.Laws.Spans.{UpTo}
+use Rattle.floats.specs.Laws.Values.{UpTo}
 use Rattle.floats.specs.declared.Way.the-variants.{Even}
 use Rattle.model.specs.declared.Distance.{Distance}
 use Rattle.model.specs.declared.NodeSound.{NodeSound}

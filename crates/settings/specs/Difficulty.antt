@@ -19,7 +19,7 @@ use lib.Ieee.Positive.{num, den}
 use lib.Ieee.Scale.{finite}
 use Rattle.rules.specs.Rule.{if_then_else_}
 use Rattle.floats.specs.Whole.{whole, rounded, signed}
-use Rattle.floats.specs.Laws.Values.{Sized, le-not-lt, round-at-most}
+use Rattle.floats.specs.Laws.Values.{UpTo, le-not-lt, round-at-most}
 use Rattle.floats.specs.declared.Way.the-variants.{Cut}
 use Rattle.model.specs.declared.Settings.{Settings}
 use Rattle.model.specs.declared.BreakPeriod.{BreakPeriod}
@@ -36,10 +36,10 @@ pub record Small (n : ℕ) (x : Float) : Type 0 where
   pub real : T (finite x)
   pub most : num x ≤ n * den x
 
-small-of : (n : ℕ) (x : Float) → Sized x × (num x ≤ n * den x) → Small n x
-small-of n nan (v, h) = absurd v
-small-of n (inf s) (v, h) = absurd v
-small-of n (fin s m e) (v, h) = record { real = tt; most = h }
+small-of : (n : ℕ) (x : Float) → UpTo n x → Small n x
+small-of n nan h = absurd (h .size)
+small-of n (inf s) h = absurd (h .size)
+small-of n (fin s m e) h = record { real = tt; most = h .high }
 
 -- without its sign
 abbrev plain : Float → Float

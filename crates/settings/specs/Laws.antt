@@ -14,7 +14,7 @@ use lib.ListN.{length}
 use Rattle.rules.specs.Rule.{if_then_else_}
 use Rattle.floats.specs.Whole.{count}
 use Rattle.floats.specs.Range.{inRange}
-use Rattle.floats.specs.Laws.Values.{Sized, add-value, round-at-most}
+use Rattle.floats.specs.Laws.Values.{Sized, UpTo, add-value, round-at-most}
 use Rattle.floats.specs.Laws.Ranges.{in-sized, in-high}
 use Rattle.floats.specs.Laws.Wholes.{count-le, count-lt}
 use Rattle.floats.specs.declared.Way.the-variants.{Cut, Even}
@@ -97,19 +97,19 @@ none : Sized (single# 0)
 unfolding ofInt round
 none = (refl, refl)
 
-pub at-most-ten : (x : Float) → T (inRange (single# 0) (single# 10) x) → Sized x × (num x ≤ 10 * den x)
+pub at-most-ten : (x : Float) → T (inRange (single# 0) (single# 10) x) → UpTo 10 x
 unfolding ofInt round
-at-most-ten x h = (in-sized (single# 0) (single# 10) x none ten h, le-trans (le-of-eq (sym (mul-one (num x)))) (in-high (single# 0) (single# 10) x none ten h))
+at-most-ten x h = record { size = in-sized (single# 0) (single# 10) x none ten h; high = le-trans (le-of-eq (sym (mul-one (num x)))) (in-high (single# 0) (single# 10) x none ten h) }
 
-sum-le : (x y : Float) → Sized x × (num x ≤ 10 * den x) → Sized y × (num y ≤ 10 * den y) → count Even (add binary32 x y) ≤ 20
-sum-le x y (v, h) (w, k) =
+sum-le : (x y : Float) → UpTo 10 x → UpTo 10 y → count Even (add binary32 x y) ≤ 20
+sum-le x y h k =
     let A = num x * den y + num y * den x in
     let C = den x * den y in
     let p : 0 < C = mul-pos (den-pos x) (den-pos y) in
-    let l : A ≤ 20 * C = go (num x) (den x) (num y) (den y) h k in
+    let l : A ≤ 20 * C = go (num x) (den x) (num y) (den y) (h .high) (k .high) in
     let S = round binary32 false A C in
     let r = round-at-most binary32 A C 20 p (lit≤ tt) l in
-    rw (add-value binary32 x y (num x) (den x) (num y) (den y) (den-pos x) (den-pos y) v w) (count-le Even S (num S) (den S) 20 (den-pos S) (r .0) (r .1))
+    rw (add-value binary32 x y (num x) (den x) (num y) (den y) (den-pos x) (den-pos y) (h .size) (k .size)) (count-le Even S (num S) (den S) 20 (den-pos S) (r .size) (r .high))
   where
     go : (a b c d : ℕ) → a ≤ 10 * b → c ≤ 10 * d → a * d + c * b ≤ 20 * (b * d)
     go a b c d h k = omega (arith, mul-le-mul-right d h, mul-le-mul-right b k)
@@ -126,5 +126,5 @@ small-seed s a =
     record {
       hpCs = sum-le (s .hp) (s .cs) (at-most-ten (s .hp) (a .hp)) (at-most-ten (s .cs) (a .cs));
       od = count-lt Cut (mul binary32 (s .od) (single 412 10));
-      ar = count-le Even (s .ar) (num (s .ar)) (den (s .ar)) 10 (den-pos (s .ar)) (ar .0) (ar .1);
+      ar = count-le Even (s .ar) (num (s .ar)) (den (s .ar)) 10 (den-pos (s .ar)) (ar .size) (ar .high);
     }

@@ -9,13 +9,8 @@ use lib.Ieee.{Float}
 use lib.Ieee.Exact.{HasValue}
 use lib.Ieee.Positive.{num, den, den-pos, value→cross}
 use Rattle.floats.specs.Range.{inRange}
-use Rattle.floats.specs.Laws.Values.{Sized, sized}
+use Rattle.floats.specs.Laws.Values.{Sized, sized, UpTo}
 use Rattle.floats.specs.Laws.Ranges.{in-sized, in-low, in-high}
-
--- from 0 to n
-pub record UpTo (n : ℕ) (x : Float) : Type 0 where
-  pub size : Sized x
-  pub high : num x ≤ n * den x
 
 -- at least 1 / k
 pub record AtLeast (k : ℕ) (x : Float) : Type 0 where

@@ -1,12 +1,13 @@
 -- The single-object entry, from what its object's rule came to from the state that was lent. Assumes nothing.
 use mathlib.Core.Path.{_≡_, refl, sym, ap, _∙_}
-use Prim.Native.Nat.{ℕ, _-_, _*_}
-use mathlib.Core.Bool.{true, false}
+use Prim.Native.Nat.{ℕ, _-_, _*_, _^_, _≤_, _<_}
+use native.Mathlib.Omega.{arith}
+use mathlib.Core.Bool.{Bool, true, false, not, _&&_}
 use mathlib.Core.List.{List}
-use lib.Dec.{ltb}
+use lib.Dec.{eqb, leb, ltb}
 use lib.ListN.{length}
-use borrow.Author.Tests.{eq-eqb, ne-eqb}
-use Rattle.rules.specs.Rule.{ended, run}
+use borrow.Author.Tests.{eq-eqb, ne-eqb, eqb-true, ltb-true, leb-true}
+use Rattle.rules.specs.Rule.{ended, run, if_then_else_}
 use Rattle.rules.specs.Refusal.{number, spentNumber, ObjectRule}
 use Rattle.random.specs.Generator.{values, steps}
 use Rattle.random.specs.Play.{Answer, found, refused, on, play}
@@ -19,9 +20,35 @@ use Rattle.model.specs.declared.Object.{Object}
 use Rattle.mania.specs.declared.Facts.{Facts}
 use Rattle.mania.specs.declared.PrevValues.{PrevValues}
 use Rattle.mania.specs.Made.{Made}
+use Rattle.mania.specs.Pattern.{free}
 use Rattle.mania.specs.Object.{object}
 use Rattle.mania.specs.Chart.{body, written}
-use Rattle.mania.specs.Single.{made, withRoom, entryRefusal, refusing, ending, singleObject}
+use Rattle.mania.specs.Laws.Tests.{and-l, four}
+use Rattle.mania.specs.Single.{made, patternFits, withRoom, entryRefusal, refusing, ending, singleObject}
+
+-- where 13 does not apply, the columns are 1 to 9, and mask and last column lie on them
+pub record Fits (v : PrevValues) (columns : ℕ) : Type 0 where
+  pub some : 1 ≤ columns
+  pub deck : columns ≤ 9
+  pub mask : v .mask < 2 ^ columns
+  pub last : v .last < columns
+
+last-fits : (b : Bool) (last columns : ℕ) (t : Bool) → 1 ≤ columns → (if b then eqb last 0 else ltb last columns && t) ≡ true → last < columns
+last-fits true last columns t h e = let z = eqb-true last 0 e in omega arith
+last-fits false last columns t h e = ltb-true last columns (and-l (ltb last columns) t e)
+
+pub pattern-fits : (v : PrevValues) (columns : ℕ) → patternFits v columns ≡ true → Fits v columns
+unfolding patternFits
+pattern-fits v columns e =
+    let here = not (free (v .mask) (v .last)) in
+    let t = four (leb 1 columns) (leb columns 9) (ltb (v .mask) (2 ^ columns)) (if eqb (v .mask) 0 then eqb (v .last) 0 else ltb (v .last) columns && here) e in
+    let low = leb-true 1 columns (t .0) in
+    record {
+      some = low;
+      deck = leb-true columns 9 (t .1);
+      mask = ltb-true (v .mask) (2 ^ columns) (t .2);
+      last = last-fits (eqb (v .mask) 0) (v .last) columns here low (t .3);
+    }
 
 -- where a rule ended, the state has made as many steps as draws are gone
 module _ {A : Type 0} (m : ObjectRule A) (d : Draws) where
