@@ -1,3 +1,2 @@
 -- What a host in C gets.
 pub mod Numbers
-pub mod Single

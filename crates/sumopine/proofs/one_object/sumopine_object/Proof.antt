@@ -1,5 +1,5 @@
 -- `sumopine::one_object::sumopine_object` meets its contract. Assumes nothing.
-use Rattle.sumopine.proofs.Given.{object-from, gives}
+use Rattle.object_numbers.proofs.Given.{object-from, gives}
 use borrow.Author.Needs.{needs}
 use Rattle.sumopine.proofs.one_object.sumopine_object.Statement.{statement}
 use Rattle.sumopine.proofs.one_object.sumopine_object.Tie as tie

@@ -18,7 +18,7 @@ use Rattle.mania.specs.declared.PrevValues.{PrevValues}
 use Rattle.mania.specs.declared.Stair.{Stair}
 use Rattle.mania.specs.declared.Stair.the-variants.{Up, Reverse}
 use Rattle.mania.specs.Single.{Single, Answer, made, refusal}
-use Rattle.sumopine.specs.declared.one_object.Told.{Told}
+use Rattle.object_numbers.specs.declared.Told.{Told}
 
 -- ---- what is lent: a flag is set where it is not 0
 

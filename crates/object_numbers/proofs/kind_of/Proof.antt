@@ -1,8 +1,8 @@
--- `sumopine::one_object::kind_of` meets its contract. Assumes nothing.
-use Rattle.sumopine.specs.Single.{kindOf}
-use Rattle.sumopine.proofs.NoKind.{no-kind}
-use Rattle.sumopine.proofs.one_object.kind_of.Statement.{statement}
-use Rattle.sumopine.proofs.one_object.kind_of.Tie as tie
+-- `object_numbers::kind_of` meets its contract. Assumes nothing.
+use Rattle.object_numbers.specs.Single.{kindOf}
+use Rattle.object_numbers.proofs.NoKind.{no-kind}
+use Rattle.object_numbers.proofs.kind_of.Statement.{statement}
+use Rattle.object_numbers.proofs.kind_of.Tie as tie
 
 returns : tie.Need-returns
 unfolding kindOf

@@ -1,7 +1,7 @@
--- `sumopine::one_object::stair_of` meets its contract. Assumes nothing.
+-- `object_numbers::stair_of` meets its contract. Assumes nothing.
 use borrow.Author.Needs.{needs}
-use Rattle.sumopine.proofs.one_object.stair_of.Statement.{statement}
-use Rattle.sumopine.proofs.one_object.stair_of.Tie as tie
+use Rattle.object_numbers.proofs.stair_of.Statement.{statement}
+use Rattle.object_numbers.proofs.stair_of.Tie as tie
 
 is-set-requires : tie.Need-is-set-requires
 is-set-requires c κs = search needs

@@ -15,7 +15,7 @@ use Rattle.mania.specs.declared.Facts.{Facts}
 use Rattle.mania.specs.declared.PrevValues.{PrevValues}
 use Rattle.mania.specs.Steps.{double}
 use Rattle.mania.specs.Single.{positionFits, patternFits, settingsFit, pointsFit, kindFits, objectFits, entryRefusal}
-use Rattle.sumopine.specs.Single.{kindOf, objectOf}
+use Rattle.object_numbers.specs.Single.{kindOf, objectOf}
 
 pub no-kind : (k repeats : ℕ) (distance : Distance) (node : NodeSound) (duration : Float) → (k ≡ 0 → ⊥) → (k ≡ 1 → ⊥) → (k ≡ 2 → ⊥) → (k ≡ 3 → ⊥)
     → kindOf k repeats distance node duration ≡ Slider 65535 D.Missing N.Missing

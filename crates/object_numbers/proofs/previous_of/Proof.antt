@@ -1,7 +1,7 @@
--- `sumopine::one_object::previous_of` meets its contract. Assumes nothing.
+-- `object_numbers::previous_of` meets its contract. Assumes nothing.
 use borrow.Author.Needs.{needs}
-use Rattle.sumopine.proofs.one_object.previous_of.Statement.{statement}
-use Rattle.sumopine.proofs.one_object.previous_of.Tie as tie
+use Rattle.object_numbers.proofs.previous_of.Statement.{statement}
+use Rattle.object_numbers.proofs.previous_of.Tie as tie
 
 stair-of-requires : tie.Need-stair-of-requires
 stair-of-requires c κs = search needs

@@ -14,8 +14,8 @@ use Rattle.mania.specs.Single.{Single, singleObject}
 use Rattle.single.specs.declared.SingleEnd.{SingleEnd}
 use Rattle.single.specs.declared.SingleEnd.the-variants as E
 use Rattle.single.specs.Ends.{singleEnd}
-use Rattle.sumopine.specs.declared.one_object.Told.{Told}
-use Rattle.sumopine.specs.Single.{kindOf, objectOf, told, Gives}
+use Rattle.object_numbers.specs.declared.Told.{Told}
+use Rattle.object_numbers.specs.Single.{kindOf, objectOf, told, Gives}
 
 -- an object, from those of its parts
 pub object-from : (x y start : Float) (sound kind repeats : ℕ) (d d₁ : Distance) (n n₁ : NodeSound) (duration : Float) (k : Kind) (o : Object)

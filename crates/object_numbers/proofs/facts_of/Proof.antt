@@ -1,7 +1,7 @@
--- `sumopine::one_object::facts_of` meets its contract. Assumes nothing.
+-- `object_numbers::facts_of` meets its contract. Assumes nothing.
 use borrow.Author.Needs.{needs}
-use Rattle.sumopine.proofs.one_object.facts_of.Statement.{statement}
-use Rattle.sumopine.proofs.one_object.facts_of.Tie as tie
+use Rattle.object_numbers.proofs.facts_of.Statement.{statement}
+use Rattle.object_numbers.proofs.facts_of.Tie as tie
 
 is-set-requires : tie.Need-is-set-requires
 is-set-requires c κs = search needs

@@ -1,7 +1,7 @@
--- `sumopine::one_object::tell` meets its contract. Assumes nothing.
+-- `object_numbers::tell` meets its contract. Assumes nothing.
 use borrow.Author.Needs.{needs}
-use Rattle.sumopine.proofs.one_object.tell.Statement.{statement}
-use Rattle.sumopine.proofs.one_object.tell.Tie as tie
+use Rattle.object_numbers.proofs.tell.Statement.{statement}
+use Rattle.object_numbers.proofs.tell.Tie as tie
 
 enum-known-end : tie.Need-enum-known-end
 enum-known-end c = search needs

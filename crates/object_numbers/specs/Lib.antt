@@ -1,0 +1,2 @@
+-- An object's values from a host's numbers, and its answer as numbers.
+pub mod Single
