@@ -1,2 +1,2 @@
--- What the search by halves knows.
+-- What the number of points passed says.
 pub mod Lookups

@@ -2,66 +2,123 @@
 ghost use mathlib.Core.Path.{_≡_};
 ghost use Prim.Native.Nat.{_≤_};
 ghost use Rattle.model.specs.ControlPoint.{beatAt, velocityAt, kiaiAt};
-ghost use Rattle.record.specs.Lookup.{times, upTo, Rising};
+ghost use Rattle.record.specs.Lookup.{Rising};
 ghost use Rattle.record.specs.Section.{timingPoints, difficultyPoints, effectPoints};
 ghost use Rattle.record.specs.declared.section.Section.the-variants.{TimingPoints, DifficultyPoints, EffectPoints};
+ghost use Rattle.points.specs.Lasting.{within, passed, Known, NumberLasts, BeatLasts, VelocityLasts, KiaiLasts};
 use bits::read_flag;
 use record::refusal::f64_at;
 use record::section::Section;
 use record::section::width_of;
 
-// How many of `count` points from bit `at` on are not after the time t. The answer lies from lo to hi, and each turn halves that range.
-fn points_up_to(section: Section, s: &[u8], at: usize, count: usize, t: f64) -> usize
-    requires { ⌜ (at ≤ 200000000) × (count ≤ 4095) × Rising section (now s) at count ⌝ }
-    ensures { λ r. ⌜ (r ≡ upTo t (times section (now (s .entry)) at count)) × (r ≤ count) ⌝ }
-{
-    let width = width_of(section);
-    let mut lo = 0;
-    let mut hi = count;
-    while lo < hi {
-        let mid = lo + (hi - lo) / 2;
-        if f64_at(s, at + width * mid) <= t {
-            lo = mid + 1;
-        } else {
-            hi = mid;
-        }
-    }
-    lo
+// How many points of a list are passed from one time on until another. A point is passed at the time t where its own time is at most t.
+pub struct Passed {
+    pub number: usize,
+    pub from: f64,
+    pub until: f64,
 }
 
-// The beat length in force at the time t, among `count` timing points from bit `at` on: before the first point it is the first's.
-pub fn timing_point_at(s: &[u8], at: usize, count: usize, t: f64) -> f64
-    requires { ⌜ (at ≤ 100000000) × (count ≤ 4095) × Rising TimingPoints (now s) at count ⌝ }
-    ensures { λ r. ⌜ r ≡ beatAt (timingPoints (now (s .entry)) at count) t ⌝ }
+// A value that is in force as long as so many points are passed.
+pub struct Lasting {
+    pub value: f64,
+    pub passed: Passed,
+}
+
+// The same of a value that is true or false.
+pub struct LastingFlag {
+    pub value: bool,
+    pub passed: Passed,
+}
+
+// Whether the time t lies between the two times.
+fn is_within(p: Passed, t: f64) -> bool
+    ensures { λ r. ⌜ r ≡ within p t ⌝ }
 {
-    if count == 0 {
-        return 1000.0;
+    (p.from <= t) & !(p.until <= t)
+}
+
+// How many of `count` points from bit `at` on are passed at the time t, after those that were passed at another. Starts never fall, so a walk over the
+// objects reads the time of each point once. No start reaches the time that stands for that of a point after the last.
+fn points_up_to(section: Section, s: &[u8], at: usize, count: usize, p: Passed, t: f64) -> Passed
+    requires { ⌜ (at ≤ 200000000) × (count ≤ 4095) × Rising section (now s) at count × Known (passed section (now s) at count) count p ⌝ }
+    ensures { λ r. ⌜ (r .number ≡ passed section (now (s .entry)) at count t) × NumberLasts section (now (s .entry)) at count r ⌝ }
+{
+    let width = width_of(section);
+    let mut number = 0;
+    let mut from = p.from;
+    if from <= t {
+        number = p.number;
     }
-    let later = points_up_to(Section::TimingPoints, s, at + 128, count - 1, t);
-    f64_at(s, at + 128 * later + 64)
+    while number < count {
+        let time = f64_at(s, at + width * number);
+        if !(time <= t) {
+            return Passed {
+                number,
+                from,
+                until: time,
+            };
+        }
+        number += 1;
+        from = time;
+    }
+    Passed {
+        number,
+        from,
+        until: 16777216.0,
+    }
+}
+
+// The beat length in force at the time t, among `count` timing points from bit `at` on: before the first point it is the first's. Like the two below,
+// it keeps the value c where that lasts.
+pub fn timing_point_at(s: &[u8], at: usize, count: usize, c: Lasting, t: f64) -> Lasting
+    requires { ⌜ (at ≤ 100000000) × (count ≤ 4095) × Rising TimingPoints (now s) at count × BeatLasts (now s) at count c ⌝ }
+    ensures { λ r. ⌜ (r .value ≡ beatAt (timingPoints (now (s .entry)) at count) t) × BeatLasts (now (s .entry)) at count r ⌝ }
+{
+    let before = c.passed;
+    if is_within(before, t) {
+        return c;
+    }
+    if count == 0 {
+        return Lasting {
+            value: 1000.0,
+            passed: before,
+        };
+    }
+    let passed = points_up_to(Section::TimingPoints, s, at + 128, count - 1, before, t);
+    let value = f64_at(s, at + 128 * passed.number + 64);
+    Lasting { value, passed }
 }
 
 // The slider velocity in force at the time t, among `count` difficulty points from bit `at` on.
-pub fn difficulty_point_at(s: &[u8], at: usize, count: usize, t: f64) -> f64
-    requires { ⌜ (at ≤ 100000000) × (count ≤ 4095) × Rising DifficultyPoints (now s) at count ⌝ }
-    ensures { λ r. ⌜ r ≡ velocityAt (difficultyPoints (now (s .entry)) at count) t ⌝ }
+pub fn difficulty_point_at(s: &[u8], at: usize, count: usize, c: Lasting, t: f64) -> Lasting
+    requires { ⌜ (at ≤ 100000000) × (count ≤ 4095) × Rising DifficultyPoints (now s) at count × VelocityLasts (now s) at count c ⌝ }
+    ensures { λ r. ⌜ (r .value ≡ velocityAt (difficultyPoints (now (s .entry)) at count) t) × VelocityLasts (now (s .entry)) at count r ⌝ }
 {
-    let last = points_up_to(Section::DifficultyPoints, s, at, count, t);
-    if last == 0 {
-        return 1.0;
+    let before = c.passed;
+    if is_within(before, t) {
+        return c;
     }
-    f64_at(s, at + 128 * (last - 1) + 64)
+    let passed = points_up_to(Section::DifficultyPoints, s, at, count, before, t);
+    let mut value = 1.0;
+    if passed.number > 0 {
+        value = f64_at(s, at + 128 * (passed.number - 1) + 64);
+    }
+    Lasting { value, passed }
 }
 
 // Whether kiai is in force at the time t, among `count` effect points from bit `at` on.
-pub fn effect_point_at(s: &[u8], at: usize, count: usize, t: f64) -> bool
-    requires { ⌜ (at ≤ 100000000) × (count ≤ 4095) × Rising EffectPoints (now s) at count ⌝ }
-    ensures { λ r. ⌜ r ≡ kiaiAt (effectPoints (now (s .entry)) at count) t ⌝ }
+pub fn effect_point_at(s: &[u8], at: usize, count: usize, c: LastingFlag, t: f64) -> LastingFlag
+    requires { ⌜ (at ≤ 100000000) × (count ≤ 4095) × Rising EffectPoints (now s) at count × KiaiLasts (now s) at count c ⌝ }
+    ensures { λ r. ⌜ (r .value ≡ kiaiAt (effectPoints (now (s .entry)) at count) t) × KiaiLasts (now (s .entry)) at count r ⌝ }
 {
-    let last = points_up_to(Section::EffectPoints, s, at, count, t);
-    if last == 0 {
-        return false;
+    let before = c.passed;
+    if is_within(before, t) {
+        return c;
     }
-    let kiai = read_flag(s, at + 65 * (last - 1) + 64);
-    kiai == 1
+    let passed = points_up_to(Section::EffectPoints, s, at, count, before, t);
+    let mut value = false;
+    if passed.number > 0 {
+        value = read_flag(s, at + 65 * (passed.number - 1) + 64) == 1;
+    }
+    LastingFlag { value, passed }
 }

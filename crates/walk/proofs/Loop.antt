@@ -10,7 +10,7 @@ use lib.Dec.{ltb}
 use lib.Pow.{pow-pos}
 use lib.ListN.{length, take, drop, length-append, length-map, take-append-drop}
 use borrow.Author.Tests.{ltb-false}
-use Rattle.random.specs.Play.{Answer, found, refused}
+use Rattle.random.specs.Play.{Answer, found, refused, on}
 use Rattle.random.specs.declared.Draws.{Draws}
 use Rattle.model.specs.declared.Object.{Object}
 use Rattle.model.specs.Each.{Each}
@@ -23,17 +23,21 @@ use Rattle.chart.specs.Chart as Bytes
 use Rattle.chart.specs.Laws.Bytes.{splice-next}
 use Rattle.chart.specs.Laws.Notes.{length-body, body-append}
 use Rattle.mania.specs.declared.Note.{Note}
+use Rattle.mania.specs.declared.Facts.{Facts}
+use Rattle.mania.specs.LimitedQueue as Queue
+use Rattle.mania.specs.Object.{object}
 use Rattle.mania.specs.Chart.{body, patternOf, inWalkOrder}
-use Rattle.mania.specs.Convert.{afterObject, beginning}
+use Rattle.mania.specs.Convert.{factsAt, afterObject, beginning}
 use Rattle.mania.specs.Convert as Convert
 use Rattle.mania.specs.Walked.{Stop, stop, onWalk}
 use Rattle.mania.specs.Range.{InRange}
 use Rattle.mania.specs.Laws.Walks.{before, walk-none, walk-refused, walk-full, walk-made}
 use Rattle.density.specs.Queued.{Held}
 use Rattle.walk.specs.declared.Song.{Song}
+use Rattle.walk.specs.declared.InForce.{InForce}
 use Rattle.walk.specs.declared.Walk.{Walk}
 use Rattle.walk.specs.Kept.{walkOf}
-use Rattle.walk.specs.Steps.{Sound, Next, Stops, refuses, full, rule, Written}
+use Rattle.walk.specs.Steps.{OfRecord, InForceAt, factsBy, factsIn, densityAt, objectRule, Sound, Next, Stops, refuses, full, rule, Written}
 
 -- ---- notes in walk order, and their bytes
 
@@ -122,47 +126,52 @@ module _ (bytes part entry : List ℕ) (g : Song) (start count : ℕ) (d : Draws
         ap (λ (x : List Object). before (a .nss) (onWalk (Convert.walk (songOf bytes) (g .difficulty) (g .columns) (length entry) i (walkOf w) x) rest)) (sym split)
         ∙ a .says
 
-    pub at-refused : (n : ℕ) (e : Draws) → length chart ≡ length entry → Stops bytes chart g w o rest n e → rule bytes part g (length entry) start count d ≡ refused (stop i n) e
-    unfolding walkOf
-    at-refused n e z (refuses h) = sym from-here ∙ walk-refused (songOf bytes) (g .difficulty) (g .columns) (length entry) i (walkOf w) o os rest n e h (a .nss)
-    at-refused n e z (full made h t k) =
-        sym from-here
-        ∙ walk-full (songOf bytes) (g .difficulty) (g .columns) (length entry) i (walkOf w) o os rest made e h (subst (λ (f : ℕ). ltb f (8 + 17 * (w .notes + length (made .notes))) ≡ true) z t) (a .nss)
-        ∙ ap (λ (x : ℕ). refused (stop i x) e) (sym k)
+    -- the facts are the song's
+    module _ (c : InForce) (F : factsIn g c w o ≡ factsAt (songOf bytes) (g .difficulty) (densityAt w o) o) where
+      ruled : on (object (factsAt (songOf bytes) (g .difficulty) (densityAt w o) o) (w .prev) (g .columns) o) rest ≡ objectRule g c w o rest
+      ruled = ap (λ (f : Facts). on (object f (w .prev) (g .columns) o) rest) (sym F)
 
-    pub at-next : (exit : List ℕ) (x : Walk) (next : ℕ) (e : Draws) → length chart ≡ length entry → Next bytes chart exit g w o rest x e
-        → next ≡ objectEnd part here → next ≤ here + 214 → At bytes part entry exit g start count d x next e (i + 1)
-    unfolding walkOf afterObject
-    at-next exit x next e z k at far =
-        let ns = k .made .notes in
-        let room : ltb (length entry) (8 + 17 * (w .notes + length ns)) ≡ false = subst (λ (f : ℕ). ltb f (8 + 17 * (w .notes + length ns)) ≡ false) z (k .room) in
-        let notes : x .notes ≡ w .notes + length ns = ap (λ (y : Convert.Walk). y .notes) (k .after) in
-        let sum : length (inWalkOrder (a .nss ++ ns ∷ [])) ≡ length (inWalkOrder (a .nss)) + length ns =
-        ap length (order-more (a .nss) ns) ∙ length-append (inWalkOrder (a .nss)) ns in
-        let fits : 8 + 17 * (w .notes + length ns) ≤ length entry = ltb-false (length entry) (8 + 17 * (w .notes + length ns)) room in
-        record {
-          nss = a .nss ++ ns ∷ [];
-          passed = omega arith;
-          says =
-              ap (λ (j : ℕ). before (a .nss ++ ns ∷ []) (onWalk (Convert.walk (songOf bytes) (g .difficulty) (g .columns) (length entry) j (walkOf x) (objects part next (count - (i + 1)))) e)) (add-one i)
-              ∙ ap (λ (p : ℕ). before (a .nss ++ ns ∷ []) (onWalk (Convert.walk (songOf bytes) (g .difficulty) (g .columns) (length entry) (suc i) (walkOf x) (objects part p (count - (i + 1)))) e)) at
-              ∙ ap (λ (y : Convert.Walk). before (a .nss ++ ns ∷ []) (onWalk (Convert.walk (songOf bytes) (g .difficulty) (g .columns) (length entry) (suc i) y os) e)) (k .after)
-              ∙ sym (walk-made (songOf bytes) (g .difficulty) (g .columns) (length entry) i (walkOf w) o os rest (k .made) e (k .says) room (a .nss))
-              ∙ from-here;
-          written =
-              k .written
-              ∙ ap (λ (s : List ℕ). splice s (8 + 17 * w .notes) (body ns)) (a .written)
-              ∙ splice-next entry 8 (body (inWalkOrder (a .nss))) (8 + 17 * w .notes) (body ns)
-              (ap (λ (n : ℕ). 8 + n) (ap (λ (n : ℕ). 17 * n) (a .number) ∙ sym (length-bytes (inWalkOrder (a .nss)))))
-              (omega (arith, length-bytes ns))
-              ∙ ap (splice entry 8) (sym (ap body (order-more (a .nss) ns) ∙ bytes-append (inWalkOrder (a .nss)) ns));
-          number = omega (arith, notes, sum, a .number);
-          few = omega (arith, notes, k .few, a .few);
-          room = omega (arith, notes, fits);
-          range = subst (λ (p : ℕ). Each InRange (objects part p (count - (i + 1)))) (sym at) (ranges .1);
-          sound = k .sound;
-          near = omega (arith, far, a .near);
-        }
+      pub at-refused : (n : ℕ) (e : Draws) → length chart ≡ length entry → Stops chart g c w o rest n e → rule bytes part g (length entry) start count d ≡ refused (stop i n) e
+      unfolding walkOf
+      at-refused n e z (refuses h) = sym from-here ∙ walk-refused (songOf bytes) (g .difficulty) (g .columns) (length entry) i (walkOf w) o os rest n e (ruled ∙ h) (a .nss)
+      at-refused n e z (full made h t k) =
+          sym from-here
+          ∙ walk-full (songOf bytes) (g .difficulty) (g .columns) (length entry) i (walkOf w) o os rest made e (ruled ∙ h) (subst (λ (f : ℕ). ltb f (8 + 17 * (w .notes + length (made .notes))) ≡ true) z t) (a .nss)
+          ∙ ap (λ (x : ℕ). refused (stop i x) e) (sym k)
+
+      pub at-next : (exit : List ℕ) (x : Walk) (next : ℕ) (e : Draws) → length chart ≡ length entry → Next chart exit g c w o rest x e
+          → next ≡ objectEnd part here → next ≤ here + 214 → At bytes part entry exit g start count d x next e (i + 1)
+      unfolding walkOf afterObject
+      at-next exit x next e z k at far =
+          let ns = k .made .notes in
+          let room : ltb (length entry) (8 + 17 * (w .notes + length ns)) ≡ false = subst (λ (f : ℕ). ltb f (8 + 17 * (w .notes + length ns)) ≡ false) z (k .room) in
+          let notes : x .notes ≡ w .notes + length ns = ap (λ (y : Convert.Walk). y .notes) (k .after) in
+          let sum : length (inWalkOrder (a .nss ++ ns ∷ [])) ≡ length (inWalkOrder (a .nss)) + length ns =
+          ap length (order-more (a .nss) ns) ∙ length-append (inWalkOrder (a .nss)) ns in
+          let fits : 8 + 17 * (w .notes + length ns) ≤ length entry = ltb-false (length entry) (8 + 17 * (w .notes + length ns)) room in
+          record {
+            nss = a .nss ++ ns ∷ [];
+            passed = omega arith;
+            says =
+                ap (λ (j : ℕ). before (a .nss ++ ns ∷ []) (onWalk (Convert.walk (songOf bytes) (g .difficulty) (g .columns) (length entry) j (walkOf x) (objects part next (count - (i + 1)))) e)) (add-one i)
+                ∙ ap (λ (p : ℕ). before (a .nss ++ ns ∷ []) (onWalk (Convert.walk (songOf bytes) (g .difficulty) (g .columns) (length entry) (suc i) (walkOf x) (objects part p (count - (i + 1)))) e)) at
+                ∙ ap (λ (y : Convert.Walk). before (a .nss ++ ns ∷ []) (onWalk (Convert.walk (songOf bytes) (g .difficulty) (g .columns) (length entry) (suc i) y os) e)) (k .after ∙ ap (λ (f : Facts). afterObject f o (densityAt w o) (k .made) (walkOf w)) F)
+                ∙ sym (walk-made (songOf bytes) (g .difficulty) (g .columns) (length entry) i (walkOf w) o os rest (k .made) e (ruled ∙ k .says) room (a .nss))
+                ∙ from-here;
+            written =
+                k .written
+                ∙ ap (λ (s : List ℕ). splice s (8 + 17 * w .notes) (body ns)) (a .written)
+                ∙ splice-next entry 8 (body (inWalkOrder (a .nss))) (8 + 17 * w .notes) (body ns)
+                (ap (λ (n : ℕ). 8 + n) (ap (λ (n : ℕ). 17 * n) (a .number) ∙ sym (length-bytes (inWalkOrder (a .nss)))))
+                (omega (arith, length-bytes ns))
+                ∙ ap (splice entry 8) (sym (ap body (order-more (a .nss) ns) ∙ bytes-append (inWalkOrder (a .nss)) ns));
+            number = omega (arith, notes, sum, a .number);
+            few = omega (arith, notes, k .few, a .few);
+            room = omega (arith, notes, fits);
+            range = subst (λ (p : ℕ). Each InRange (objects part p (count - (i + 1)))) (sym at) (ranges .1);
+            sound = k .sound;
+            near = omega (arith, far, a .near);
+          }
 
   pub at-end : (chart : List ℕ) (w : Walk) (here : ℕ) (rest : Draws) (i : ℕ) → count ≤ i → count ≤ 4095 → At bytes part entry chart g start count d w here rest i
       → Written (rule bytes part g (length entry) start count d) entry chart (w .notes) rest
@@ -180,6 +189,12 @@ module _ (bytes part entry : List ℕ) (g : Song) (start count : ℕ) (d : Draws
         few = omega (arith, a .few, a .passed);
         room = a .room;
       }
+
+-- the facts, from the points in force
+pub facts-of : (bytes : List ℕ) (g : Song) (c : InForce) (q : Queue.Density) (o : Object) → OfRecord bytes g → InForceAt bytes g (o .start) c
+    → factsBy g c q ≡ factsAt (songOf bytes) (g .difficulty) q o
+unfolding factsAt
+facts-of bytes g c q o h f = rw (f .beat, f .velocity, f .kiai, h .multiplier, h .timing, h .difficulty, h .effect)
 
 -- the walk begins with an empty pattern
 pub begun : (columns : ℕ) (w : Walk) → walkOf w ≡ beginning → Held (w .density) → 1 ≤ columns → Sound columns w

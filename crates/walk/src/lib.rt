@@ -1,18 +1,19 @@
 // The walk: what each object finds and leaves, and the objects one after another.
 ghost use mathlib.Core.Path.{_≡_};
-ghost use Prim.Native.Nat.{_+_, _^_, _≤_, _<_};
+ghost use Prim.Native.Nat.{ℕ, _+_, _^_, _≤_, _<_};
+ghost use mathlib.Core.List.{List};
 ghost use lib.ListN.{length};
 ghost use Rattle.model.specs.Each.{Each};
-ghost use Rattle.record.specs.Record.{songOf};
-ghost use Rattle.record.specs.Object.{readObject, objects};
+ghost use Rattle.record.specs.Object.{objects};
 ghost use Rattle.mania.specs.declared.Facts.{Facts};
 ghost use Rattle.mania.specs.Convert as Convert;
-ghost use Rattle.mania.specs.Convert.{positionAfter, timeAfter, leaves, factsAt};
+ghost use Rattle.mania.specs.Convert.{positionAfter, timeAfter, leaves};
 ghost use Rattle.mania.specs.PathObject.{spanLength};
 ghost use Rattle.mania.specs.Range.{InRange};
 ghost use Rattle.density.specs.Queued.{Held, queued};
+ghost use Rattle.walk.specs.declared.Song.{Song};
 ghost use Rattle.walk.specs.Kept.{spanIn, walkOf, leftBy};
-ghost use Rattle.walk.specs.Steps.{OfRecord, Meets, Keeps, Finishes, Sound, Steps, rule, Ends};
+ghost use Rattle.walk.specs.Steps.{OfRecord, InForceOf, InForceAt, Meets, Keeps, Finishes, Sound, Steps, rule, Ends};
 use density::Density;
 use density::compute_density;
 use density::node_time;
@@ -27,6 +28,9 @@ use model::Position;
 use notes::put_notes;
 use pattern::ObjectEnd;
 use pattern::Pattern;
+use points::Lasting;
+use points::LastingFlag;
+use points::Passed;
 use points::difficulty_point_at;
 use points::effect_point_at;
 use points::timing_point_at;
@@ -70,7 +74,7 @@ fn span_in(f: Facts, o: Object) -> u32
 }
 
 // The density that an object meets: a circle counts in it.
-pub fn meets(o: Object, d: Density) -> Density
+fn meets(o: Object, d: Density) -> Density
     requires { ⌜ Held d ⌝ }
     ensures { λ r. ⌜ Held r × (queued r ≡ Convert.meets (o .kind) (o .start) (queued d)) ⌝ }
 {
@@ -88,7 +92,7 @@ pub fn meets(o: Object, d: Density) -> Density
 }
 
 // The density after an object whose span length is given.
-pub fn density_after(o: Object, span: u32, d: Density) -> Density
+fn density_after(o: Object, span: u32, d: Density) -> Density
     requires { ⌜ Held d ⌝ }
     ensures { λ r. ⌜ Held r × ((f : Facts) → span ≡ spanIn f o (o .kind) → queued r ≡ leaves f o (o .kind) (queued d)) ⌝ }
 {
@@ -106,7 +110,7 @@ pub fn density_after(o: Object, span: u32, d: Density) -> Density
 }
 
 // The previous time after an object whose span length is given.
-pub fn time_after(o: Object, span: u32) -> f64
+fn time_after(o: Object, span: u32) -> f64
     ensures { λ r. ⌜ ((f : Facts) → span ≡ spanIn f o (o .kind) → r ≡ timeAfter f o (o .kind)) ⌝ }
 {
     let kind = o.kind;
@@ -123,7 +127,7 @@ pub fn time_after(o: Object, span: u32) -> f64
 }
 
 // The previous position after an object.
-pub fn position_after(o: Object) -> Position
+fn position_after(o: Object) -> Position
     ensures { λ r. ⌜ r ≡ positionAfter o (o .kind) ⌝ }
 {
     let kind = o.kind;
@@ -140,7 +144,7 @@ pub fn position_after(o: Object) -> Position
 }
 
 // What the walk keeps after an object that left a mask, a last column and a stair, and made `count` notes.
-pub fn after_object(
+fn after_object(
     f: Facts,
     o: Object,
     met: Density,
@@ -182,50 +186,74 @@ pub struct Song {
     pub places: Places,
 }
 
-// An object as the walk meets it, and where the next one is.
+// The values of the points in force.
+pub struct InForce {
+    pub beat: Lasting,
+    pub velocity: Lasting,
+    pub kiai: LastingFlag,
+}
+
+// What the walk begins with: values that are in force at no time.
+fn none_in_force() -> InForce
+    ensures { λ r. ⌜ ((bytes : List ℕ) (g : Song) → InForceOf bytes g r) ⌝ }
+{
+    let passed = Passed {
+        number: 0,
+        from: 0.0,
+        until: 0.0,
+    };
+    let value = Lasting { value: 0.0, passed };
+    InForce {
+        beat: value,
+        velocity: value,
+        kiai: LastingFlag {
+            value: false,
+            passed,
+        },
+    }
+}
+
+// The values at the time t, after those at another time: each is looked for only where it has ended.
+fn in_force_at(bytes: &[u8], g: Song, c: InForce, t: f64) -> InForce
+    requires { ⌜ OfRecord (now bytes) g × InForceOf (now bytes) g c ⌝ }
+    ensures { λ r. ⌜ InForceOf (now (bytes .entry)) g r × InForceAt (now (bytes .entry)) g t r ⌝ }
+{
+    let n = g.counts;
+    let at = g.places;
+    let b = c.beat;
+    let v = c.velocity;
+    let k = c.kiai;
+    let beat = timing_point_at(bytes, at.timing, n.timing, b, t);
+    let velocity = difficulty_point_at(bytes, at.difficulty, n.difficulty, v, t);
+    let kiai = effect_point_at(bytes, at.effect, n.effect, k, t);
+    InForce {
+        beat,
+        velocity,
+        kiai,
+    }
+}
+
+// What an object meets.
 pub struct Met {
-    pub object: Object,
-    pub next: usize,
     pub density: Density,
     pub facts: Facts,
 }
 
-// The facts in force at an object.
-fn facts_at(bytes: &[u8], g: Song, d: Density, o: Object) -> Facts
-    requires { ⌜ OfRecord (now bytes) g ⌝ }
-    ensures { λ r. ⌜ r ≡ factsAt (songOf (now (bytes .entry))) (g .difficulty) (queued d) o ⌝ }
+// The density and the facts that an object meets.
+fn meet(g: Song, c: InForce, before: Density, o: Object) -> Met
+    requires { ⌜ Held before ⌝ }
+    ensures { λ r. ⌜ Meets g c before o r ⌝ }
 {
-    let n = g.counts;
-    let at = g.places;
-    let beat = timing_point_at(bytes, at.timing, n.timing, o.start);
-    let velocity = difficulty_point_at(bytes, at.difficulty, n.difficulty, o.start);
-    let kiai = effect_point_at(bytes, at.effect, n.effect, o.start);
-    Facts {
+    let density = meets(o, before);
+    let facts = Facts {
         difficulty: g.difficulty,
         multiplier: g.multiplier,
-        beat,
-        velocity,
-        kiai,
-        density: d.value,
-    }
-}
-
-// The object at bit `at` of the part of the record that has the objects.
-fn meet(bytes: &[u8], part: &[u8], g: Song, before: Density, at: usize) -> Met
-    requires { ⌜ OfRecord (now bytes) g × Held before × (at ≤ 800000000) ⌝ }
-    ensures { λ r. ⌜ Meets (now (bytes .entry)) (now (part .entry)) g before at r ⌝ }
-{
-    let read = read_object(part, at);
-    let object = read.object;
-    let next = read.next;
-    let density = meets(object, before);
-    let facts = facts_at(bytes, g, density, object);
-    Met {
-        object,
-        next,
-        density,
-        facts,
-    }
+        beat: c.beat.value,
+        velocity: c.velocity.value,
+        kiai: c.kiai.value,
+        density: density.value,
+    };
+    Met { density, facts }
 }
 
 // Whether a chart of so many notes fits, and what the walk then keeps. (No enum: what the walk keeps has an array.)
@@ -235,9 +263,17 @@ pub struct Kept {
 }
 
 // Writes an object's notes after those of the objects before it, where the chart has room for them.
-fn keep(chart: &mut [u8], words: &[u64], m: Met, p: Pattern, stair: Stair, w: Walk) -> Kept
+fn keep(
+    chart: &mut [u8],
+    words: &[u64],
+    o: Object,
+    m: Met,
+    p: Pattern,
+    stair: Stair,
+    w: Walk,
+) -> Kept
     requires { ⌜ Held (m .density) × (p .count ≤ 2050) × (2050 ≤ length (now words)) × (w .notes ≤ 16777215) ⌝ }
-    ensures { λ r. ⌜ Keeps (now (chart .entry)) (now (chart .exit)) (now (words .entry)) m p stair w r ⌝ }
+    ensures { λ r. ⌜ Keeps (now (chart .entry)) (now (chart .exit)) (now (words .entry)) o m p stair w r ⌝ }
 {
     let count = p.count;
     let before = w.notes as usize;
@@ -247,7 +283,6 @@ fn keep(chart: &mut [u8], words: &[u64], m: Met, p: Pattern, stair: Stair, w: Wa
             walk: w,
         };
     }
-    let o = m.object;
     put_notes(o, words, count, chart, 8 + 17 * before);
     let met = m.density;
     let f = m.facts;
@@ -255,12 +290,11 @@ fn keep(chart: &mut [u8], words: &[u64], m: Met, p: Pattern, stair: Stair, w: Wa
     Kept { fits: true, walk }
 }
 
-// One object more: what the walk keeps after it, where the next one is, and the draws; or a refusal's number, and the draws.
+// One object more: what the walk keeps after it, and the draws; or a refusal's number, and the draws.
 pub struct Step {
     pub refused: bool,
     pub number: u8,
     pub walk: Walk,
-    pub next: usize,
     pub draws: Draws,
 }
 
@@ -268,6 +302,7 @@ pub struct Step {
 fn finish(
     chart: &mut [u8],
     words: &[u64],
+    o: Object,
     m: Met,
     p: Pattern,
     stair: Stair,
@@ -275,49 +310,44 @@ fn finish(
     d: Draws,
 ) -> Step
     requires { ⌜ Held (m .density) × (p .count ≤ 2050) × (2050 ≤ length (now words)) × (w .notes ≤ 16777215) ⌝ }
-    ensures { λ r. ⌜ Finishes (now (chart .entry)) (now (chart .exit)) (now (words .entry)) m p stair w d r ⌝ }
+    ensures { λ r. ⌜ Finishes (now (chart .entry)) (now (chart .exit)) (now (words .entry)) o m p stair w d r ⌝ }
 {
-    let next = m.next;
-    let kept = keep(chart, words, m, p, stair, w);
+    let kept = keep(chart, words, o, m, p, stair, w);
     let walk = kept.walk;
     let refused = !kept.fits;
     Step {
         refused,
         number: 11,
         walk,
-        next,
         draws: d,
     }
 }
 
-// The object at bit `at` of the part is converted, and its notes are written.
+// An object is converted, and its notes are written.
 fn convert_object(
-    bytes: &[u8],
-    part: &[u8],
     chart: &mut [u8],
     words: &mut [u64],
     spare: &mut [u64],
     g: Song,
+    c: InForce,
     w: Walk,
-    at: usize,
+    o: Object,
     d: Draws,
 ) -> Step
-    requires { ⌜ OfRecord (now bytes) g × Sound (g .columns) w × InRange (readObject (now part) at) × (at ≤ 800000000) × (w .notes ≤ 16777215) × (2050 ≤ length (now words)) × (2050 ≤ length (now spare)) ⌝ }
-    ensures { λ r. ⌜ Steps (now (bytes .entry)) (now (part .entry)) (now (chart .entry)) (now (chart .exit)) g w at d r ⌝ }
+    requires { ⌜ (1 ≤ g .columns) × (g .columns ≤ 9) × Sound (g .columns) w × InRange o × (w .notes ≤ 16777215) × (2050 ≤ length (now words)) × (2050 ≤ length (now spare)) ⌝ }
+    ensures { λ r. ⌜ Steps (now (chart .entry)) (now (chart .exit)) g c w o d r ⌝ }
 {
     let before = w.density;
-    let m = meet(bytes, part, g, before, at);
+    let m = meet(g, c, before, o);
     let f = m.facts;
-    let o = m.object;
     let v = w.prev;
     match object::generate(f, v, g.columns, o, words, spare, d) {
-        ObjectEnd::Made(p, stair, e) => finish(chart, words, m, p, stair, w, e),
+        ObjectEnd::Made(p, stair, e) => finish(chart, words, o, m, p, stair, w, e),
         ObjectEnd::Refused(n, e) => {
             Step {
                 refused: true,
                 number: n,
                 walk: w,
-                next: at,
                 draws: e,
             }
         }
@@ -364,18 +394,22 @@ pub fn walk_objects(
     ensures { λ r. ⌜ Ends (rule (now (bytes .entry)) (now (part .entry)) g (length (now (chart .entry))) at count d) (now (chart .entry)) (now (chart .exit)) r ⌝ }
 {
     let mut w = beginning();
+    let mut c = none_in_force();
     let mut here = at;
     let mut rest = d;
     let mut i: u32 = 0;
     while i < count {
-        let s = convert_object(bytes, part, chart, words, spare, g, w, here, rest);
+        let read = read_object(part, here);
+        let o = read.object;
+        c = in_force_at(bytes, g, c, o.start);
+        let s = convert_object(chart, words, spare, g, c, w, o, rest);
         let e = s.draws;
         if s.refused {
             return WalkEnd::Refused(s.number, i, e);
         }
         let x = s.walk;
         w = x;
-        here = s.next;
+        here = read.next;
         rest = e;
         i += 1;
     }

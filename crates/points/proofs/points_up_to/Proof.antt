@@ -1,83 +1,74 @@
--- `record::lookup::points_up_to` meets its contract. The loop's invariant: the points before lo are not after t, and those from hi on are. Assumes nothing.
-use mathlib.Core.Path.{_≡_, sym, ap, _∙_}
-use Prim.Native.Nat.{ℕ, _+_, _-_, _*_, _/_, _≤_, _<_}
-use mathlib.Core.Bool.{true}
+-- `points::points_up_to` meets its contract. The loop's invariant: as many points are passed at t, and at any time at which `from` is. Assumes nothing.
+use Prim.Native.Nat.{_-_, _*_, _≤_}
+use mathlib.Core.Logic.{⊎-elim}
 use native.Mathlib.Omega.{arith}
-use lib.Ieee.{lt}
-use Rattle.record.specs.Refusal.{f64At}
-use Rattle.record.specs.Lookup.{upTo}
-use Rattle.points.proofs.Lookups.{Early, Late, up-to-is, early-up, late-down, times-by, rising-by, near}
+use borrow.Author.Tests.{not-true, not-false}
 use Rattle.record.specs.Laws.Widths.{width-le}
+use Rattle.points.specs.Lasting.{Reached}
+use Rattle.points.proofs.Lookups.{amount, near, reached-at, reached-up, found-before, found-after}
 use Rattle.points.proofs.points_up_to.Statement.{statement}
 use Rattle.points.proofs.points_up_to.Tie as tie
 
 abbrev Inv-loop : tie.InvT-loop
-Inv-loop s at count t width lo₀ hi₀ lo hi = (lo ≤ hi) × (hi ≤ count) × (width ≤ 128) × Early t (f64At s) width at lo × Late t (f64At s) width at hi count
+Inv-loop s at count t width number₀ from₀ number from =
+    (number ≤ count) × (width ≤ 128) × (number ≤ amount s width at count t) × Reached (amount s width at count) number from
 
 abbrev μ-loop : tie.MeasureT-loop
-μ-loop s at count t width lo₀ hi₀ lo hi = hi - lo
-
--- the times rise, by the width as the code has it
-rising : (c : tie.At-loop Inv-loop μ-loop) (i : ℕ) → i + 1 < c .before .before .before .args .count
-    → lt (f64At (c .before .before .before .args .s .now) (c .before .before .before .args .at + c .before .width-of .result * i))
-    (f64At (c .before .before .before .args .s .now) (c .before .before .before .args .at + c .before .width-of .result * (i + 1)))
-    ≡ true
-rising c = rising-by (c .before .before .before .args .section) _ _ _ _ (c .before .width-of .ensures) (c .before .before .before .pre .2)
-
-middle : (c : tie.In-loop Inv-loop μ-loop) → c .before .before .width-of .result * (c .before .loop .lo + (c .before .loop .hi - c .before .loop .lo) / 2) ≤ 524160
-middle c = near _ _ (c .before .loop .inv .2) (omega arith)
+μ-loop s at count t width number₀ from₀ number from = count - number
 
 width-of-requires : tie.Need-width-of-requires Inv-loop μ-loop
 width-of-requires c κs = tt
 
 loop-holds : tie.Need-loop-holds Inv-loop μ-loop
-loop-holds c = (omega arith, omega arith, rw (c .width-of .ensures) (width-le (c .before .before .args .section)), (λ j l. absurd (omega arith)), (λ j l m. absurd (omega arith)))
+loop-holds c =
+    let s = c .before .before .before in
+    let a = s .args in
+    let w = c .before .width-of .ensures in
+    let at = reached-at (a .section) (a .s .now) (a .at) (a .count) _ w (a .p .number) in (
+      ⊎-elim (λ b. omega arith) (λ b. omega arith) (c .if1 .came),
+      rw w (width-le (a .section)),
+      ⊎-elim (λ b. omega (arith, b .1, at (a .t) (s .pre .3 .1 (a .t) (b .0 .taken)))) (λ b. omega arith) (c .if1 .came),
+      (λ u h. ⊎-elim (λ b. omega (arith, b .1, at u (s .pre .3 .1 u h))) (λ b. omega arith) (c .if1 .came)),
+    )
 
-sub-mid : tie.Need-sub-mid Inv-loop μ-loop
-sub-mid c = omega arith
-
-add-mid : tie.Need-add-mid Inv-loop μ-loop
-add-mid c = omega arith
+small : (c : tie.In-loop Inv-loop μ-loop) → c .before .before .before .width-of .result * c .before .loop .number ≤ 524160
+small c = near _ _ (c .before .loop .inv .1) (omega arith)
 
 mul-f64-at : tie.Need-mul-f64-at Inv-loop μ-loop
-mul-f64-at c = omega (arith, middle c)
+mul-f64-at c = omega (arith, small (c .before))
 
 add-f64-at : tie.Need-add-f64-at Inv-loop μ-loop
-add-f64-at c = omega (arith, middle c)
+add-f64-at c = omega (arith, small (c .before))
 
 f64-at-requires : tie.Need-f64-at-requires Inv-loop μ-loop
-f64-at-requires c κs = omega (arith, middle c)
+f64-at-requires c κs = omega (arith, small (c .before))
 
-add-lo : tie.Need-add-lo Inv-loop μ-loop
-add-lo c = omega arith
+returns : tie.Need-returns Inv-loop μ-loop
+returns c =
+    let l = c .before .before .before .before .loop in
+    let a = c .before .before .before .before .before .before .before .before .args in
+    found-before (a .section) (a .s .now) (a .at) (a .count) _ (c .before .before .before .before .before .before .width-of .ensures) (l .number) _ _ (l .inv .3) (omega arith) (c .before .f64-at .ensures) (a .t) (l .inv .2)
+    (not-true _ (c .if2 .taken))
+
+add-number : tie.Need-add-number Inv-loop μ-loop
+add-number c = omega arith
 
 loop-less : tie.Need-loop-less Inv-loop μ-loop
 loop-less c = omega arith
 
 loop-again : tie.Need-loop-again Inv-loop μ-loop
 loop-again c =
-    let l = c .before .before .before .loop .inv in
-    let a = c .before .before .before .before .before .before .args in
-    let m = c .before .before .before .loop .lo + (c .before .before .before .loop .hi - c .before .before .before .loop .lo) / 2 in
-    (omega arith, l .1, l .2, early-up (a .t) (f64At (a .s .now)) _ (a .at) (a .count) (rising (c .before .before .before)) m (omega arith) (rw (c .before .f64-at .ensures) at (c .if1 .taken)), l .4)
+    let l = c .before .before .before .before .loop in
+    let s = c .before .before .before .before .before .before .before .before in
+    let a = s .args in
+    let more = reached-up (a .section) (a .s .now) (a .at) (a .count) _ (c .before .before .before .before .before .before .width-of .ensures) (l .number) (s .pre .2) (omega arith) _ (c .before .f64-at .ensures) in
+    (omega arith, l .inv .1, more (a .t) (not-false _ (c .if2 .left)), more)
 
-loop-less-2 : tie.Need-loop-less-2 Inv-loop μ-loop
-loop-less-2 c = omega arith
-
-loop-again-2 : tie.Need-loop-again-2 Inv-loop μ-loop
-loop-again-2 c =
-    let l = c .before .before .before .loop .inv in
-    let a = c .before .before .before .before .before .before .args in
-    let m = c .before .before .before .loop .lo + (c .before .before .before .loop .hi - c .before .before .before .loop .lo) / 2 in
-    (omega arith, omega arith, l .2, l .3, late-down (a .t) (f64At (a .s .now)) _ (a .at) (a .count) (rising (c .before .before .before)) m (omega arith) (rw (c .before .f64-at .ensures) at (c .if1 .left)))
-
-returns : tie.Need-returns Inv-loop μ-loop
-returns c =
+returns-2 : tie.Need-returns-2 Inv-loop μ-loop
+returns-2 c =
     let l = c .before .loop in
-    let a = c .before .before .before .before .args in
-    let met : l .hi ≡ l .lo = omega arith in
-    let same = times-by (a .section) (a .s .now) (a .at) (a .count) _ (c .before .before .width-of .ensures) in
-    (sym (up-to-is (a .t) (f64At (a .s .now)) _ (l .lo) (a .count) (a .at) (omega arith) (l .inv .3) (rw met at (l .inv .4))) ∙ ap (upTo (a .t)) same, omega arith)
+    let a = c .before .before .before .before .before .args in
+    found-after (a .section) (a .s .now) (a .at) (a .count) _ (c .before .before .before .width-of .ensures) (l .number) _ _ (l .inv .3) (omega arith) (a .t) (l .inv .2)
 
 pub points-up-to-spec : {M : Type 1} → statement M
 points-up-to-spec =
@@ -87,14 +78,11 @@ points-up-to-spec =
     μ-loop
     width-of-requires
     loop-holds
-    sub-mid
-    add-mid
     mul-f64-at
     add-f64-at
     f64-at-requires
-    add-lo
+    returns
+    add-number
     loop-less
     loop-again
-    loop-less-2
-    loop-again-2
-    returns)
+    returns-2)

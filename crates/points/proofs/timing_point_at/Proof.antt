@@ -1,18 +1,25 @@
--- `record::lookup::timing_point_at` meets its contract. Assumes nothing.
-use Prim.Native.Nat.{_<_}
+-- `points::timing_point_at` meets its contract. Assumes nothing.
+use mathlib.Core.Path.{sym, _∙_}
 use native.Mathlib.Omega.{arith}
 use lib.Ieee.{round, size, span, climb, units, odd, ofBits, ofFields}
-use Rattle.model.specs.ControlPoint.{beatAt}
-use Rattle.record.specs.Refusal.{entries}
-use Rattle.record.specs.Section.{timingPoints}
-use Rattle.points.proofs.Lookups.{rising-rest, beat-at}
+use Rattle.points.proofs.Lookups.{found-of, rising-rest, beat-default, beat-at}
 use borrow.Author.Needs.{needs}
 use Rattle.points.proofs.timing_point_at.Statement.{statement}
 use Rattle.points.proofs.timing_point_at.Tie as tie
 
+is-within-requires : tie.Need-is-within-requires
+is-within-requires c κs = search needs
+
 returns : tie.Need-returns
-unfolding beatAt timingPoints entries round size span climb units odd ofBits ofFields
-returns c = rw (c .if1 .taken)
+returns c =
+    let l = c .before .before .before .before .pre .3 in
+    (l .same _ (sym (c .before .is-within .ensures) ∙ c .if1 .taken), l)
+
+returns-2 : tie.Need-returns-2
+unfolding round size span climb units odd ofBits ofFields
+returns-2 c =
+    let l = c .before .before .before .before .before .pre .3 in
+    (sym (beat-default _ _ _ _ (c .if2 .taken)), record { known = l .known; same = (λ u h. sym (beat-default _ _ _ u (c .if2 .taken))) })
 
 add-points-up-to : tie.Need-add-points-up-to
 add-points-up-to c = search needs
@@ -21,7 +28,9 @@ sub-points-up-to : tie.Need-sub-points-up-to
 sub-points-up-to c = search needs
 
 points-up-to-requires : tie.Need-points-up-to-requires
-points-up-to-requires c κs = (omega arith, omega arith, rising-rest _ _ _ (c .before .before .pre .2))
+points-up-to-requires c κs =
+    let s = c .before .before .before .before .before in
+    (omega arith, omega arith, rising-rest _ _ _ (s .pre .2), s .pre .3 .known)
 
 mul-f64-at : tie.Need-mul-f64-at
 mul-f64-at c = search needs
@@ -35,16 +44,16 @@ add-f64-at-2 c = search needs
 f64-at-requires : tie.Need-f64-at-requires
 f64-at-requires c κs = search needs
 
-returns-2 : tie.Need-returns-2
-returns-2 c =
-    let some : 0 < c .before .before .before .before .args .count = omega arith in
-    rw (beat-at _ _ _ _ some, ← (c .before .points-up-to .ensures .0), c .f64-at .ensures)
+returns-3 : tie.Need-returns-3
+returns-3 c = found-of _ _ _ _ _ _ (λ u e. c .f64-at .ensures ∙ sym (beat-at _ _ _ u _ e (omega arith))) (c .before .before .points-up-to .ensures)
 
 pub timing-point-at-spec : {M : Type 1} → statement M
 timing-point-at-spec =
     tie.close
     (tie.spec
+    is-within-requires
     returns
+    returns-2
     add-points-up-to
     sub-points-up-to
     points-up-to-requires
@@ -52,4 +61,4 @@ timing-point-at-spec =
     add-f64-at
     add-f64-at-2
     f64-at-requires
-    returns-2)
+    returns-3)

@@ -4,7 +4,6 @@ use mathlib.Core.Path.{sym, ap, _∙_, subst}
 use Prim.Native.Nat.{_≤_}
 use native.Mathlib.Omega.{arith}
 use lib.ListN.{length}
-use Rattle.mania.specs.Range.{InRange}
 use Rattle.pattern.specs.Answers.{objectEnd}
 use Rattle.object.specs.Notes.{noteAt}
 use Rattle.object.specs.Contract.{OnDeck}
@@ -17,32 +16,21 @@ meet-requires : tie.Need-meet-requires
 meet-requires c κs = search needs
 
 generate-requires : tie.Need-generate-requires
-generate-requires c κs =
-    let s = c .before .before .before .before .before .before .before .before .before .before .before .before in
-    let m = c .before .before .before .before .before .meet in
-    record {
-      low = s .pre .0 .low;
-      high = s .pre .0 .high;
-      mask = s .pre .1 .mask;
-      last = s .pre .1 .last;
-      range = subst InRange (sym (m .ensures .object)) (s .pre .2);
-      words = omega (arith, s .pre .5);
-      spare = omega (arith, s .pre .6);
-    }
+generate-requires c κs = search needs
 
 enum-known-p : tie.Need-enum-known-p
 enum-known-p c = search needs
 
 -- what was made lies on the deck
-deck : (c : tie.After-known-told) → OnDeck (c .before .before .before .before .before .before .before .before .before .before .before .before .before .before .before .before .before .before .before .before .args .g .columns) (c .before .before .before .before .before .before .before .generate .result)
+deck : (c : tie.After-known-told) → OnDeck (c .before .before .before .before .before .before .before .before .before .before .before .before .before .before .before .before .before .args .g .columns) (c .before .before .before .before .before .before .before .generate .result)
 deck c = c .before .before .before .before .before .before .before .generate .ensures .deck
 
 finish-requires : tie.Need-finish-requires
 finish-requires c κs =
     let k = c .before .before in
-    let s = k .before .before .before .before .before .before .before .before .before .before .before .before .before .before .before .before .before .before .before .before in
+    let s = k .before .before .before .before .before .before .before .before .before .before .before .before .before .before .before .before .before in
     let on-deck = subst (OnDeck (s .args .g .columns)) (k .before .p .given .1) (deck k) in
-    (k .before .before .before .before .before .before .before .before .before .before .before .before .before .meet .ensures .held, on-deck .0, omega (arith, s .pre .5), s .pre .4)
+    (k .before .before .before .before .before .before .before .before .before .before .before .before .meet .ensures .held, on-deck .0, omega (arith, s .pre .5), s .pre .4)
 
 enum-known-n : tie.Need-enum-known-n
 enum-known-n c = search needs
@@ -59,15 +47,15 @@ same-length-3 c = search needs
 returns : tie.Need-returns
 returns c =
     let k = c .before .before .before .before .before in
-    let s = k .before .before .before .before .before .before .before .before .before .before .before .before .before .before .before .before .before .before .before .before in
-    let m = k .before .before .before .before .before .before .before .before .before .before .before .before .before .meet in
+    let s = k .before .before .before .before .before .before .before .before .before .before .before .before .before .before .before .before .before in
+    let m = k .before .before .before .before .before .before .before .before .before .before .before .before .meet in
     let n = k .before .before .before .before .before .before .before .generate in
     let v = k .before .p .given in
     let words = n .last .1 .1 .1 .1 .0 in
     let size : 2050 ≤ length words = omega (arith, s .pre .5) in
-    finished (s .args .bytes .now) (s .args .part .now) (s .args .chart .now) (c .before .before .finish .last .0) words (s .args .g) (s .args .w) (s .args .at) (s .args .d) (v .0 .1 .1 .0) (m .result)
+    finished (s .args .chart .now) (c .before .before .finish .last .0) words (s .args .g) (s .args .c) (s .args .w) (s .args .o) (s .args .d) (v .0 .1 .1 .0) (m .result)
     (v .0 .0) (v .0 .1 .0) (m .ensures) size (subst (OnDeck (s .args .g .columns)) (v .1) (deck k))
-    (ap (objectEnd (noteAt (m .result .object)) words) (sym (v .1)) ∙ n .ensures .says) (c .before .before .finish .result) (c .before .before .finish .ensures)
+    (ap (objectEnd (noteAt (s .args .o)) words) (sym (v .1)) ∙ n .ensures .says) (c .before .before .finish .result) (c .before .before .finish .ensures)
 
 same-length-4 : tie.Need-same-length-4
 same-length-4 c = search needs
@@ -77,12 +65,12 @@ same-length-5 c = search needs
 
 returns-2 : tie.Need-returns-2
 returns-2 c =
-    let s = c .before .before .before .before .before .before .before .before .before .before .before .before .before .before .before .before .before .before .before .before in
-    let m = c .before .before .before .before .before .before .before .before .before .before .before .before .before .meet in
+    let s = c .before .before .before .before .before .before .before .before .before .before .before .before .before .before .before .before .before in
+    let m = c .before .before .before .before .before .before .before .before .before .before .before .before .meet in
     let n = c .before .before .before .before .before .before .before .generate in
     let v = c .before .n .given in
-    refused-step (s .args .bytes .now) (s .args .part .now) (s .args .chart .now) (s .args .g) (s .args .w) (s .args .at) (s .args .d) (v .0 .1 .0) (m .result) (v .0 .0) (m .ensures)
-    (ap (objectEnd (noteAt (m .result .object)) (n .last .1 .1 .1 .1 .0)) (sym (v .1)) ∙ n .ensures .says)
+    refused-step (s .args .chart .now) (s .args .g) (s .args .c) (s .args .w) (s .args .o) (s .args .d) (v .0 .1 .0) (m .result) (v .0 .0) (m .ensures)
+    (ap (objectEnd (noteAt (s .args .o)) (n .last .1 .1 .1 .1 .0)) (sym (v .1)) ∙ n .ensures .says)
 
 pub convert-object-spec : {M : Type 1} → statement M
 convert-object-spec =

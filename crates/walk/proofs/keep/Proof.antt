@@ -45,7 +45,7 @@ same-length c = search needs
 returns-2 : tie.Need-returns-2
 returns-2 c =
     let k = c .before .before .before .before .before in
-    let a = k .before .before .before .before .before .before .before .args in
+    let a = k .before .before .before .before .before .before .args in
     (le-ltb (length (a .chart .now)) (8 + 17 * (a .w .notes + a .p .count)) (omega arith), k .put-notes .ensures, c .after-object .ensures .0, c .after-object .ensures .1)
 
 pub keep-spec : {M : Type 1} → statement M
