@@ -34,9 +34,7 @@ use Rattle.model.specs.Song.{Song}
 use Rattle.mania.specs.Convert.{Walk, at, seed, columnsOf, convert}
 use Rattle.mania.specs.Job.{under}
 use Rattle.mania.specs.Demand.{Each}
-use Rattle.random.specs.Play.{found, on}
-use Rattle.random.specs.declared.Draws.{Draws}
-use Rattle.random.specs.Laws.On.{gives}
+use Rattle.random.specs.Play.{on}
 use Rattle.random.specs.Laws.Gives.{Gives}
 use Rattle.mania.proofs.Makes.{Makes, giving, refusing, seq, less, by, added, label-gives, ran}
 use Rattle.mania.proofs.Bars.{kept, ending-kept}

@@ -3,11 +3,11 @@ use mathlib.Core.Path.{_≡_, refl, sym, ap, _∙_, subst}
 use Prim.Native.Nat.{ℕ, _-_, _*_, _^_, _≤_, _<_}
 use native.Mathlib.Nat.{lt-of-not-le}
 use native.Mathlib.Omega.{arith}
-use mathlib.Core.Bool.{Bool, true, false, not, _&&_}
+use mathlib.Core.Bool.{Bool, true, false, not}
 use mathlib.Core.List.{List}
-use lib.Dec.{eqb, leb, ltb}
+use lib.Dec.{eqb, ltb}
 use lib.ListN.{length}
-use borrow.Author.Tests.{ltb-true, ltb-false, leb-true, eqb-true, eqb-false}
+use borrow.Author.Tests.{ltb-true, ltb-false, eqb-true, eqb-false}
 use Rattle.rules.specs.Rule.{Outcome, ended, spent, run, taken, Done, refuse, give, if_then_else_}
 use Rattle.rules.specs.Rule as Rule
 use Rattle.rules.specs.Refusal.{Refusal, lateEnd, noColumn, offDeck, tooShort, number, spentNumber, ObjectRule}
@@ -24,14 +24,12 @@ use Rattle.mania.specs.declared.PrevValues.{PrevValues}
 use Rattle.mania.specs.declared.Stair.{Stair}
 use Rattle.mania.specs.Made.{Made}
 use Rattle.mania.specs.Object.{object}
-use Rattle.mania.specs.Pattern.{free}
 use Rattle.mania.specs.Refusals.{Late, Blocked, Below}
 use Rattle.mania.specs.Single.{made, refusal, Single, patternFits, settingsFit, pointsFit, objectFits, withRoom, entryRefusal, refusing, ending, singleObject}
 use Rattle.mania.specs.Single as Single
 use Rattle.mania.specs.Demand.{OnDeck}
 use Rattle.mania.specs.SingleClaims.{under, draws, entry, Gave, RefusedBy, Claims}
 use Rattle.mania.proofs.Makes.{ran}
-use Rattle.mania.specs.Laws.Tests.{and-l, and-r}
 use Rattle.mania.specs.Laws.Singles.{Fits, pattern-fits}
 use Rattle.mania.proofs.Meets as Meets
 use Rattle.mania.proofs.Meets.{Meets, refused-meets, ended-meets}
