@@ -65,14 +65,31 @@ fn four_bytes(s: &[u8], i: usize) -> u64
     joined(three, s[i + 3], 8, 8)
 }
 
-// The 64 bits from bit `off` of byte i on.
+// The eight bytes from byte i on, as one number.
+fn eight_bytes(s: &[u8], i: usize) -> u64
+    requires { ⌜ i + 8 ≤ length (now s) ⌝ }
+    ensures { λ r. ⌜ r ≡ bits (now (s .entry)) (8 * i) 64 ⌝ }
+{
+    let high = four_bytes(s, i);
+    let low = four_bytes(s, i + 4);
+    high * 4294967296 + low
+}
+
+// The first k bits of a byte.
+fn first_bits(b: u8, k: usize) -> u64
+    requires { ⌜ k ≤ 8 ⌝ }
+    ensures { λ r. ⌜ (r ≡ b / 2 ^ (8 - k)) × (r < 2 ^ k) ⌝ }
+{
+    b as u64 >> (8 - k)
+}
+
+// The 64 bits from bit `off` of byte i on: the shift drops those before.
 fn word(s: &[u8], i: usize, off: usize) -> u64
     requires { ⌜ (i + 9 ≤ length (now s)) × (off ≤ 7) ⌝ }
     ensures { λ r. ⌜ r ≡ bits (now (s .entry)) (8 * i + off) 64 ⌝ }
 {
-    let high = four_bytes(s, i) % power(32 - off);
-    let low = four_bytes(s, i + 4);
-    joined(high * 4294967296 + low, s[i + 8], 8, off)
+    let high = eight_bytes(s, i) << off;
+    high + first_bits(s[i + 8], off)
 }
 
 // The number that the `width` bits from bit `at` on spell; bits past the end are 0. Where nine bytes are there, they hold the field.
@@ -103,7 +120,8 @@ pub fn read_flag(s: &[u8], at: usize) -> usize
     requires { ⌜ at ≤ 4294967296 ⌝ }
     ensures { λ r. ⌜ (r ≡ bits (now (s .entry)) at 1) × (r ≤ 1) ⌝ }
 {
-    read_bits(s, at, 1) as usize
+    let b = byte_at(s, at / 8) as usize;
+    (b >> (7 - at % 8)) % 2
 }
 
 // A field of 32 bits.

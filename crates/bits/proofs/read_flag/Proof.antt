@@ -1,16 +1,24 @@
--- `bits::read_flag` meets its contract: a field of one bit is below 2.
--- Assumes nothing.
+-- `bits::read_flag` meets its contract: a field of one bit is that bit. Assumes nothing.
 use native.Mathlib.Omega.{arith}
+use Rattle.bits.proofs.Words.{flag-is}
 use borrow.Author.Needs.{needs}
-use Rattle.bits.specs.Laws.Fields.{bits-lt}
 use Rattle.bits.proofs.read_flag.Statement.{statement}
 use Rattle.bits.proofs.read_flag.Tie as tie
 
-read-bits-requires : tie.Need-read-bits-requires
-read-bits-requires c κs = search needs
+byte-at-requires : tie.Need-byte-at-requires
+byte-at-requires c κs = search needs
+
+cast-b : tie.Need-cast-b
+cast-b c = search needs
+
+sub-result : tie.Need-sub-result
+sub-result c = search needs
+
+shr-result : tie.Need-shr-result
+shr-result c = search needs
 
 returns : tie.Need-returns
-returns c = (c .read-bits .ensures, omega (arith, bits-lt (c .before .before .args .s .now) (c .before .before .args .at) 1))
+returns c = (rw (c .byte-at .ensures) (flag-is _ _), omega arith)
 
 pub read-flag-spec : {M : Type 1} → statement M
-read-flag-spec = tie.close (tie.spec read-bits-requires returns)
+read-flag-spec = tie.close (tie.spec byte-at-requires cast-b sub-result shr-result returns)
