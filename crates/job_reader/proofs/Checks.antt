@@ -6,7 +6,7 @@ use native.Mathlib.Omega.{arith}
 use lib.Ieee.{Float}
 use Rattle.model.specs.Song.{Song}
 use Rattle.model.specs.Totals.{lastStart, slidersAndSpinners}
-use Rattle.record.specs.declared.object.Scan.the-variants.{Refused, Scanned}
+use Rattle.record.specs.declared.objects.Scan.the-variants.{Refused, Scanned}
 use Rattle.record.specs.declared.Checked.the-variants as Checked
 use Rattle.record.specs.Refusal.{_then_}
 use Rattle.record.specs.Header.{headerRefusal, countsOf}

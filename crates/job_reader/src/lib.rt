@@ -14,7 +14,7 @@ use record::header::header_refusal;
 use record::header::keys_of;
 use record::header::places_of;
 use record::header::settings_of;
-use record::object::Scan;
+use record::objects::Scan;
 use record::refusal::f64_at;
 use record::refusal::first;
 use record::refusal::refuse;

@@ -13,9 +13,9 @@ use Rattle.model.specs.declared.Kind.{Kind}
 use Rattle.model.specs.declared.Kind.the-variants.{Circle, Slider, Spinner, Hold}
 use Rattle.model.specs.declared.Object.{Object}
 use Rattle.model.specs.Totals.{lastStart, slidersAndSpinners}
-use Rattle.record.specs.declared.object.ReadObject.{ReadObject}
-use Rattle.record.specs.declared.object.Scan.{Scan}
-use Rattle.record.specs.declared.object.Scan.the-variants.{Refused, Scanned}
+use Rattle.record.specs.declared.objects.ReadObject.{ReadObject}
+use Rattle.record.specs.declared.objects.Scan.{Scan}
+use Rattle.record.specs.declared.objects.Scan.the-variants.{Refused, Scanned}
 use Rattle.record.specs.Refusal.{_gives_, _then_, f32Refusal, f64Refusal, f32At, f64At, entriesRefusal, entries, entriesEnd}
 
 -- ---- what a kind adds, from bit q on

@@ -1,7 +1,7 @@
 -- Parts of contracts. Assumes nothing.
 use Prim.Native.Nat.{ℕ, zero, suc, _≤_}
-use Rattle.record.specs.declared.object.Scan.{Scan}
-use Rattle.record.specs.declared.object.Scan.the-variants.{Refused, Scanned}
+use Rattle.record.specs.declared.objects.Scan.{Scan}
+use Rattle.record.specs.declared.objects.Scan.the-variants.{Refused, Scanned}
 
 -- 1 for a slider and a spinner, by the kind's number
 abbrev pub isLong : ℕ → ℕ

@@ -6,7 +6,7 @@ use native.Mathlib.Omega.{arith}
 use lib.Ieee.{Float}
 use Rattle.bits.specs.Field.{bits}
 use Rattle.model.specs.Totals.{lastStart, slidersAndSpinners}
-use Rattle.record.specs.declared.object.Scan.the-variants.{Refused, Scanned}
+use Rattle.record.specs.declared.objects.Scan.the-variants.{Refused, Scanned}
 use Rattle.record.specs.Refusal.{entriesRefusal, entries, entriesEnd}
 use Rattle.record.specs.Object.{startAt, readObject, objectEnd, objectRefusal, objectsRefusal, objects, objectsEnd, zeroStart, scanBy, scan}
 use Rattle.record.specs.Post.{isLong}

@@ -1,4 +1,4 @@
--- `chart::reader::header_ok` meets its contract. Each early return names the test that fails (`head-refused`); where all but the last pass, that one decides (`head-decided`).
+-- `chart_reader::header_ok` meets its contract. Each early return names the test that fails (`head-refused`); where all but the last pass, that one decides (`head-decided`).
 -- Assumes nothing.
 use borrow.Author.Tests.{lt-leb, ne-eqb}
 use Rattle.chart.specs.Chart.{headTests, columnsOf, countOf}

@@ -1,4 +1,4 @@
--- `chart::reader::may_stand` meets its contract. Each early return names the test that fails (`note-refused`); where all but the last pass, that one decides (`note-decided`).
+-- `chart_reader::may_stand` meets its contract. Each early return names the test that fails (`note-refused`); where all but the last pass, that one decides (`note-decided`).
 -- Assumes nothing.
 use borrow.Author.Needs.{needs}
 use mathlib.Core.Path.{_≡_, sym, _∙_}

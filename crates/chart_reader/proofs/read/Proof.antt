@@ -1,4 +1,4 @@
--- `chart::reader::read` meets its contract. A refusal says that the header fails (`refused-head`) or that a row does (`refused-rows`). The invariant: the rows from the i-th on pass exactly where all rows do. The measure is the number of rows left.
+-- `chart_reader::read` meets its contract. A refusal says that the header fails (`refused-head`) or that a row does (`refused-rows`). The invariant: the rows from the i-th on pass exactly where all rows do. The measure is the number of rows left.
 -- Assumes nothing.
 use mathlib.Core.Path.{_≡_, sym, ap, _∙_}
 use mathlib.Core.Bool.{true}

@@ -1,4 +1,4 @@
--- -- `chart_text::digit_code` meets its contract: the branch is the test of `digit`. Assumes nothing.
+-- `chart_text::digit_code` meets its contract: the branch is the test of `digit`. Assumes nothing.
 use borrow.Author.Tests.{lt-ltb, le-ltb}
 use Rattle.chart_text.specs.Text.{digit}
 use borrow.Author.Needs.{needs}

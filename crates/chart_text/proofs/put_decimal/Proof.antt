@@ -1,4 +1,4 @@
--- -- `chart_text::put_decimal` meets its contract: as many digits are stored as the number has. Assumes nothing.
+-- `chart_text::put_decimal` meets its contract: as many digits are stored as the number has. Assumes nothing.
 use mathlib.Core.Path.{_≡_, _∙_}
 use native.Mathlib.Omega.{arith}
 use lib.Dec.{ltb}

@@ -1,4 +1,4 @@
--- -- `chart_text::put_hex` meets its contract: a bit pattern is its 16 digits. Assumes nothing.
+-- `chart_text::put_hex` meets its contract: a bit pattern is its 16 digits. Assumes nothing.
 use mathlib.Core.Path.{refl}
 use Rattle.chart_text.specs.Text.{hex}
 use borrow.Author.Needs.{needs}

@@ -1,4 +1,4 @@
--- -- `chart_text::put_named` meets its contract: the word and its number stand side by side (`wrote-next`). Assumes nothing.
+-- `chart_text::put_named` meets its contract: the word and its number stand side by side (`wrote-next`). Assumes nothing.
 use Rattle.chart_text.specs.Text.{decimal, named}
 use Rattle.chart_text.specs.Laws.{wrote-first, wrote-next}
 use borrow.Author.Needs.{needs}

@@ -1,4 +1,4 @@
--- -- `chart_text::put_note_line` meets its contract: the parts of the line stand side by side (`wrote-next`). Assumes nothing.
+-- `chart_text::put_note_line` meets its contract: the parts of the line stand side by side (`wrote-next`). Assumes nothing.
 use Rattle.chart_text.specs.Text.{ascii, decimal, withHex, noteLine}
 use Rattle.chart_text.specs.Laws.{wrote-first, wrote-next}
 use borrow.Author.Needs.{needs}

@@ -1,4 +1,4 @@
--- -- `chart_text::put_with_hex` meets its contract: the word and its bit pattern stand side by side (`wrote-next`). Assumes nothing.
+-- `chart_text::put_with_hex` meets its contract: the word and its bit pattern stand side by side (`wrote-next`). Assumes nothing.
 use mathlib.Core.Path.{_∙_}
 use Rattle.chart_text.specs.Text.{hex, withHex}
 use Rattle.chart_text.specs.Laws.{wrote-first, wrote-next, length-hex}

@@ -1,4 +1,4 @@
--- `chart::writer::finish` meets its contract. The notes behind the header are as they were, and the splice of the header and that of the notes are one splice of the chart (`encode-put`).
+-- `chart_writer::finish` meets its contract. The notes behind the header are as they were, and the splice of the header and that of the notes are one splice of the chart (`encode-put`).
 -- Assumes nothing.
 use mathlib.Core.Path.{_≡_, refl, _∙_}
 use mathlib.Core.List.{List, []}

@@ -1,4 +1,4 @@
--- `chart::writer::put_header` meets its contract. The store and the two splices after it are one splice of the header (`header-put`).
+-- `chart_writer::put_header` meets its contract. The store and the two splices after it are one splice of the header (`header-put`).
 -- Assumes nothing.
 use mathlib.Core.Path.{_≡_, _∙_}
 use native.Mathlib.Omega.{arith}

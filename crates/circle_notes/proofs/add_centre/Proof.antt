@@ -1,4 +1,4 @@
--- `hit_object::add_centre` meets its contract. Assumes nothing.
+-- `circle_notes::add_centre` meets its contract. Assumes nothing.
 use native.Mathlib.Omega.{arith}
 use Rattle.random.specs.Play.{play}
 use Rattle.circle_notes.specs.Parts.{addCentre}

@@ -1,4 +1,4 @@
--- `hit_object::add_mirrored` meets its contract. The invariant is `Mirroring`: the rest of the rule comes to what the whole comes to. Assumes nothing.
+-- `circle_notes::add_mirrored` meets its contract. The invariant is `Mirroring`: the rest of the rule comes to what the whole comes to. Assumes nothing.
 use mathlib.Core.Path.{_≡_, refl, sym, ap, subst, _∙_}
 use Prim.Native.Nat.{_/_, _<_}
 use native.Mathlib.Omega.{arith}

@@ -1,4 +1,4 @@
--- `hit_object::add_note` meets its contract. Assumes nothing.
+-- `circle_notes::add_note` meets its contract. Assumes nothing.
 use mathlib.Core.Path.{sym}
 use native.Mathlib.Omega.{arith}
 use Rattle.circle_notes.proofs.Words.{note-off, note-on}

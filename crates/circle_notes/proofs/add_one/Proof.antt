@@ -1,4 +1,4 @@
--- `hit_object::add_one` meets its contract. Assumes nothing.
+-- `circle_notes::add_one` meets its contract. Assumes nothing.
 use mathlib.Core.Path.{sym, _∙_}
 use native.Mathlib.Omega.{arith}
 use Rattle.circle_notes.proofs.Words.{one-free, one-taken}

@@ -1,4 +1,4 @@
--- `hit_object::add_pair` meets its contract: a note, and then the other. Assumes nothing.
+-- `circle_notes::add_pair` meets its contract: a note, and then the other. Assumes nothing.
 use mathlib.Core.Path.{sym, ap, subst, _∙_}
 use native.Mathlib.Omega.{arith}
 use Rattle.random.specs.Laws.On.{found-bind, refused-bind}

@@ -1,4 +1,4 @@
--- `hit_object::add_random` meets its contract. The invariant is `Going`: the rest of the rule comes to what the whole comes to. Assumes nothing.
+-- `circle_notes::add_random` meets its contract. The invariant is `Going`: the rest of the rule comes to what the whole comes to. Assumes nothing.
 use mathlib.Core.Path.{_≡_, refl, sym, ap, subst, _∙_}
 use Prim.Native.Nat.{_<_}
 use native.Mathlib.Omega.{arith}

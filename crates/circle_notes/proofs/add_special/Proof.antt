@@ -1,4 +1,4 @@
--- `hit_object::add_special` meets its contract. Assumes nothing.
+-- `circle_notes::add_special` meets its contract. Assumes nothing.
 use native.Mathlib.Omega.{arith}
 use Rattle.random.specs.Play.{play}
 use Rattle.mania.specs.HitObject.{addSpecial}

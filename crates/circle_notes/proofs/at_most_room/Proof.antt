@@ -1,4 +1,4 @@
--- `hit_object::at_most_room` meets its contract. Assumes nothing.
+-- `circle_notes::at_most_room` meets its contract. Assumes nothing.
 use native.Mathlib.Omega.{arith}
 use lib.Count.{ones-le}
 use Rattle.pattern.specs.Laws.Searches.{start-le}

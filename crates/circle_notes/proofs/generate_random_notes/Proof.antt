@@ -1,4 +1,4 @@
--- `hit_object::generate_random_notes` meets its contract. Assumes nothing.
+-- `circle_notes::generate_random_notes` meets its contract. Assumes nothing.
 use Prim.Native.Nat.{_<_}
 use native.Mathlib.Omega.{arith}
 use Rattle.mania.specs.HitObject.{generateRandomNotes}

@@ -1,4 +1,4 @@
--- `hit_object::generate_random_pattern` meets its contract: a count, notes, and the special one, one after the other. Assumes nothing.
+-- `circle_notes::generate_random_pattern` meets its contract: a count, notes, and the special one, one after the other. Assumes nothing.
 use mathlib.Core.Path.{_≡_, sym, ap, subst, _∙_}
 use Prim.Native.Nat.{_≤_}
 use native.Mathlib.Omega.{arith}

@@ -1,4 +1,4 @@
--- `hit_object::generate_random_pattern_with_mirrored` meets its contract. Assumes nothing.
+-- `circle_notes::generate_random_pattern_with_mirrored` meets its contract. Assumes nothing.
 use mathlib.Core.Path.{sym, ap, _∙_}
 use Rattle.random.specs.Play.{on}
 use Rattle.mania.specs.declared.CircleChances.{CircleChances}

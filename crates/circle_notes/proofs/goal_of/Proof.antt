@@ -1,4 +1,4 @@
--- `hit_object::goal_of` meets its contract. Assumes nothing.
+-- `circle_notes::goal_of` meets its contract. Assumes nothing.
 use native.Mathlib.Omega.{arith}
 use Rattle.pattern.specs.Laws.Searches.{start-lt}
 use Rattle.circle_notes.specs.Parts.{goal}

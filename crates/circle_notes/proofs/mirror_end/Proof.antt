@@ -1,4 +1,4 @@
--- `hit_object::mirror_end` meets its contract: the note at the centre, and then the special one. Assumes nothing.
+-- `circle_notes::mirror_end` meets its contract: the note at the centre, and then the special one. Assumes nothing.
 use mathlib.Core.Path.{sym, ap, subst, _∙_}
 use native.Mathlib.Omega.{arith}
 use Rattle.random.specs.Laws.On.{found-bind, refused-bind}

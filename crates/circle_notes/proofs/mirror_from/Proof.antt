@@ -1,4 +1,4 @@
--- `hit_object::mirror_from` meets its contract: a column, the notes, and the end, one after the other. Assumes nothing.
+-- `circle_notes::mirror_from` meets its contract: a column, the notes, and the end, one after the other. Assumes nothing.
 use mathlib.Core.Path.{_≡_, sym, ap, subst, _∙_}
 use Prim.Native.Nat.{_/_, _<_}
 use native.Mathlib.Omega.{arith}

@@ -1,4 +1,4 @@
--- `hit_object::mirror_notes` meets its contract: the centre's draw, the count, and the notes. Assumes nothing.
+-- `circle_notes::mirror_notes` meets its contract: the centre's draw, the count, and the notes. Assumes nothing.
 use mathlib.Core.Path.{_≡_, refl, sym, ap, _∙_}
 use Prim.Native.Nat.{ℕ, _≤_}
 use native.Mathlib.Omega.{arith}

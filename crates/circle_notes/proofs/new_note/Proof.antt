@@ -1,4 +1,4 @@
--- `hit_object::new_note` meets its contract. Assumes nothing.
+-- `circle_notes::new_note` meets its contract. Assumes nothing.
 use mathlib.Core.Path.{ap, _∙_}
 use native.Mathlib.Omega.{arith}
 use Rattle.random.specs.Play.{on}

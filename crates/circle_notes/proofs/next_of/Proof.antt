@@ -1,4 +1,4 @@
--- `hit_object::next_of` meets its contract. Assumes nothing.
+-- `circle_notes::next_of` meets its contract. Assumes nothing.
 use Rattle.mania.specs.HitObject.{nextOf}
 use borrow.Author.Needs.{needs}
 use Rattle.circle_notes.proofs.next_of.Statement.{statement}

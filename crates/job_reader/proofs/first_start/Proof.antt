@@ -1,4 +1,4 @@
--- `record::first_start` meets its contract. Assumes nothing.
+-- `job_reader::first_start` meets its contract. Assumes nothing.
 use Prim.Native.Nat.{_<_}
 use lib.Ieee.{round, size, span, climb, units, odd, ofBits, ofFields}
 use native.Mathlib.Omega.{arith}

@@ -1,4 +1,4 @@
--- `record::object::distance_by` meets its contract: the flag picks the case.
+-- `record_object::distance_by` meets its contract: the flag picks the case.
 -- Assumes nothing.
 use Rattle.record.specs.Object.{distanceBy}
 use Rattle.record_object.proofs.Objects.{distance-given}

@@ -1,4 +1,4 @@
--- `record::object::distance_refusal` meets its contract: the flag picks the case.
+-- `record_object::distance_refusal` meets its contract: the flag picks the case.
 -- Assumes nothing.
 use lib.Ieee.{neg, ofInt, round, size, span, climb, units, odd, ofBits, ofFields}
 use Rattle.record.specs.Object.{distanceRefusal}

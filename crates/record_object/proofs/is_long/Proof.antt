@@ -1,4 +1,4 @@
--- `record::object::is_long` meets its contract: the kind number picks the case. Assumes nothing.
+-- `record_object::is_long` meets its contract: the kind number picks the case. Assumes nothing.
 use mathlib.Core.Path.{refl}
 use native.Mathlib.Omega.{arith}
 use Rattle.record_object.proofs.Objects.{not-long}

@@ -1,4 +1,4 @@
--- `record::object::kind_by` meets its contract: the kind number picks the case. Assumes nothing.
+-- `record_object::kind_by` meets its contract: the kind number picks the case. Assumes nothing.
 use Rattle.record.specs.Object.{kindBy}
 use Rattle.record_object.proofs.Objects.{kind-hold}
 use borrow.Author.Needs.{needs}

@@ -1,4 +1,4 @@
--- `record::object::kind_refusal` meets its contract: the kind number picks the case.
+-- `record_object::kind_refusal` meets its contract: the kind number picks the case.
 -- Assumes nothing.
 use Rattle.record.specs.Object.{kindRefusal}
 use Rattle.record_object.proofs.Objects.{refusal-span}

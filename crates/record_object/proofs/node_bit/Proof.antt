@@ -1,4 +1,4 @@
--- `record::object::node_bit` meets its contract: the flag is at most 1.
+-- `record_object::node_bit` meets its contract: the flag is at most 1.
 -- Assumes nothing.
 use native.Mathlib.Omega.{arith}
 use Rattle.record.specs.Object.{nodeBit}

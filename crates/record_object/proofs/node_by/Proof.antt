@@ -1,4 +1,4 @@
--- `record::object::node_by` meets its contract: the bit before picks the case. Assumes nothing.
+-- `record_object::node_by` meets its contract: the bit before picks the case. Assumes nothing.
 use Rattle.record.specs.Object.{nodeBy}
 use Rattle.record_object.proofs.Objects.{node-given}
 use borrow.Author.Needs.{needs}

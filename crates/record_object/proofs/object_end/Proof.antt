@@ -1,4 +1,4 @@
--- `record::object::object_end` meets its contract: the kind number picks the case.
+-- `record_object::object_end` meets its contract: the kind number picks the case.
 -- Assumes nothing.
 use mathlib.Core.Path.{sym, _∙_}
 use native.Mathlib.Omega.{arith}

@@ -1,4 +1,4 @@
--- `record::object::object_refusal` meets its contract: what its calls ensure, put together.
+-- `record_object::object_refusal` meets its contract: what its calls ensure, put together.
 -- Assumes nothing.
 use Rattle.record.specs.Object.{objectRefusal, startAt}
 use borrow.Author.Needs.{needs}

@@ -1,4 +1,4 @@
--- `record::object::position_refusal` meets its contract: the bounds, as the code and as the definition write them, are the same floats.
+-- `record_object::position_refusal` meets its contract: the bounds, as the code and as the definition write them, are the same floats.
 -- Assumes nothing.
 use lib.Ieee.{neg, ofInt, round, size, span, climb, units, odd, ofBits, ofFields}
 use Rattle.record.specs.Object.{positionRefusal}

@@ -1,4 +1,4 @@
--- `record::object::read_repeats` meets its contract: a field of 10 bits fits. Assumes nothing.
+-- `record_object::read_repeats` meets its contract: a field of 10 bits fits. Assumes nothing.
 use lib.Dec.{lit≤}
 use Rattle.record.specs.Laws.Widths.{bits-fit}
 use borrow.Author.Needs.{needs}

@@ -1,4 +1,4 @@
--- `record::object::slider_end` meets its contract: the flag is at most 1.
+-- `record_object::slider_end` meets its contract: the flag is at most 1.
 -- Assumes nothing.
 use native.Mathlib.Omega.{arith}
 use Rattle.record.specs.Object.{sliderEnd}

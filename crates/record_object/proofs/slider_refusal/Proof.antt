@@ -1,4 +1,4 @@
--- `record::object::slider_refusal` meets its contract: what its calls ensure, put together.
+-- `record_object::slider_refusal` meets its contract: what its calls ensure, put together.
 -- Assumes nothing.
 use Rattle.record.specs.Object.{sliderRefusal}
 use borrow.Author.Needs.{needs}

@@ -1,4 +1,4 @@
--- `path_object::beside_count` meets its contract. Assumes nothing.
+-- `slider_patterns::beside_count` meets its contract. Assumes nothing.
 use mathlib.Core.Path.{_∙_}
 use lib.Ieee.{round, ofBits}
 use Rattle.random.specs.Play.{play}

@@ -1,4 +1,4 @@
--- `path_object::besides_from` meets its contract. Assumes nothing.
+-- `slider_patterns::besides_from` meets its contract. Assumes nothing.
 use borrow.Author.Needs.{needs}
 use mathlib.Core.Path.{sym, ap, _∙_}
 use Prim.Native.Nat.{_-_}

@@ -1,4 +1,4 @@
--- `path_object::certain` meets its contract. Assumes nothing.
+-- `slider_patterns::certain` meets its contract. Assumes nothing.
 use lib.Ieee.{round, ofBits}
 use borrow.Author.Needs.{needs}
 use Rattle.slider_patterns.proofs.certain.Statement.{statement}

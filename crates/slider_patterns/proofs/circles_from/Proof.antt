@@ -1,4 +1,4 @@
--- `path_object::circles_from` meets its contract. Assumes nothing.
+-- `slider_patterns::circles_from` meets its contract. Assumes nothing.
 use borrow.Author.Needs.{needs}
 use mathlib.Core.Path.{sym, ap, _∙_}
 use native.Mathlib.Omega.{arith}

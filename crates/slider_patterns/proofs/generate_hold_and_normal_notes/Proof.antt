@@ -1,4 +1,4 @@
--- `path_object::generate_hold_and_normal_notes` meets its contract. Assumes nothing.
+-- `slider_patterns::generate_hold_and_normal_notes` meets its contract. Assumes nothing.
 use borrow.Author.Needs.{needs}
 use mathlib.Core.Path.{sym, ap, _∙_}
 use native.Mathlib.Omega.{arith}

@@ -1,4 +1,4 @@
--- `path_object::generate_stair` meets its contract. Assumes nothing.
+-- `slider_patterns::generate_stair` meets its contract. Assumes nothing.
 use borrow.Author.Needs.{needs}
 use mathlib.Core.Path.{_≡_, sym, ap, _∙_}
 use Prim.Native.Nat.{_≤_}

@@ -1,4 +1,4 @@
--- `path_object::head_column` meets its contract. Assumes nothing.
+-- `slider_patterns::head_column` meets its contract. Assumes nothing.
 use mathlib.Core.Path.{sym, _∙_}
 use native.Mathlib.Omega.{arith}
 use Rattle.slider_patterns.proofs.Rules.{head-moved, head-own}

@@ -1,4 +1,4 @@
--- `path_object::holds_from` meets its contract. Assumes nothing.
+-- `slider_patterns::holds_from` meets its contract. Assumes nothing.
 use Rattle.mania.specs.PatternGenerator.{randomStart}
 use borrow.Author.Needs.{needs}
 use mathlib.Core.Path.{sym, ap, subst, _∙_}

@@ -1,4 +1,4 @@
--- `path_object::holds_off` meets its contract. Assumes nothing.
+-- `slider_patterns::holds_off` meets its contract. Assumes nothing.
 use native.Mathlib.Omega.{arith}
 use Rattle.pattern.specs.Laws.Searches.{start-lt}
 use borrow.Author.Needs.{needs}

@@ -1,4 +1,4 @@
--- `path_object::holds_over` meets its contract. Assumes nothing.
+-- `slider_patterns::holds_over` meets its contract. Assumes nothing.
 use native.Mathlib.Omega.{arith}
 use lib.Count.{ones-le}
 use Rattle.pattern.specs.Laws.Searches.{start-lt}

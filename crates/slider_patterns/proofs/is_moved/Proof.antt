@@ -1,4 +1,4 @@
--- `path_object::is_moved` meets its contract. Assumes nothing.
+-- `slider_patterns::is_moved` meets its contract. Assumes nothing.
 use borrow.Author.Needs.{needs}
 use Rattle.slider_patterns.proofs.is_moved.Statement.{statement}
 use Rattle.slider_patterns.proofs.is_moved.Tie as tie

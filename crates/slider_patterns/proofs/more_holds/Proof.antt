@@ -1,4 +1,4 @@
--- `path_object::more_holds` meets its contract. Assumes nothing.
+-- `slider_patterns::more_holds` meets its contract. Assumes nothing.
 use borrow.Author.Needs.{needs}
 use mathlib.Core.Path.{sym, ap, subst, _∙_}
 use Prim.Native.Nat.{_+_, _≤_}

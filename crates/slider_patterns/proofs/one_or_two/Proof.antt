@@ -1,4 +1,4 @@
--- `path_object::one_or_two` meets its contract. Assumes nothing.
+-- `slider_patterns::one_or_two` meets its contract. Assumes nothing.
 use lib.Ieee.{round, ofBits}
 use Rattle.mania.specs.PathObject.{oneOrTwo}
 use borrow.Author.Needs.{needs}

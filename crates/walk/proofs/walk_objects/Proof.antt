@@ -5,7 +5,7 @@ use native.Mathlib.Omega.{arith}
 use mathlib.Core.Bool.{Bool}
 use lib.ListN.{length}
 use Rattle.model.specs.declared.Object.{Object}
-use Rattle.record.specs.declared.object.ReadObject.{ReadObject}
+use Rattle.record.specs.declared.objects.ReadObject.{ReadObject}
 use Rattle.record.specs.Object.{readObject, objectEnd, readAt}
 use Rattle.record.specs.Record.{songOf}
 use Rattle.mania.specs.Convert.{factsAt}

@@ -1,4 +1,4 @@
--- `chart::time::upper` meets its contract. A case for each range of the exponent's field, each a law of `units`.
+-- `chart_reader::time::upper` meets its contract. A case for each range of the exponent's field, each a law of `units`.
 -- Assumes nothing.
 use borrow.Author.Needs.{needs}
 use mathlib.Core.Path.{sym, _∙_}

@@ -1,4 +1,4 @@
--- `chart::time::within` meets its contract. A time past the bound makes the sum too late (`sum-late`); else the test on rounded numbers is the exact test (`sum-test`).
+-- `chart_reader::time::within` meets its contract. A time past the bound makes the sum too late (`sum-late`); else the test on rounded numbers is the exact test (`sum-test`).
 -- Assumes nothing.
 use borrow.Author.Needs.{needs}
 use mathlib.Core.Path.{sym}
