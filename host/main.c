@@ -81,17 +81,20 @@ static int print_chart(size_t length) {
     return 0;
 }
 
-/* The small record's hold alone, on 9 columns, after no other object, from the state of seed 0. */
+/* The small record's hold alone, on 9 columns, after no other object, from the state of seed 0. It makes one note. */
 static int print_object(void) {
+    uint8_t *note = malloc(SUMOPINE_NOTE_BYTES);
+    if (note == NULL) return 1;
     uint32_t x = 0, y = 842502087, z = 3579807591, w = 273326509;
     uint32_t notes, mask, last, stair, draws;
     uint32_t refusal = sumopine_object(0.0, 1.0, 1000.0, 1.0, 0, 0.0, 0.0, 0.0f, 0.0f, 0, 0, 0, 9, 0.0f, 0.0f, 1000.0, 0, SUMOPINE_HOLD, 0, 0,
-                                       0.0, 0, 0, 300.0, 1, &x, &y, &z, &w, chart, BYTES, &notes, &mask, &last, &stair, &draws);
+                                       0.0, 0, 0, 300.0, 1, &x, &y, &z, &w, note, SUMOPINE_NOTE_BYTES, &notes, &mask, &last, &stair, &draws);
     if (refusal != 0) {
         printf("refused %" PRIu32 "\n", refusal);
         return 1;
     }
-    printf("one object: %" PRIu32 " notes, %" PRIu32 " draws, column %d\n", notes, draws, chart[0] >> 4);
+    printf("one object: %" PRIu32 " notes, %" PRIu32 " draws, column %d\n", notes, draws, note[0] >> 4);
+    free(note);
     return 0;
 }
 

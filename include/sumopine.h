@@ -3,7 +3,7 @@
  * A buffer is a pointer and a length in bytes. Pointers are never null, also where a length is 0, and what is written through one pointer
  * is reached through no other pointer of the same call. Nothing is kept, allocated or freed: all memory stays the caller's.
  * There is no global state, so that calls on different memory may run at the same time on any number of threads.
- * A job needs at most 64 KiB of stack. Every output is set in every case, as said at each function. */
+ * A job needs at most 64 KiB of stack. Every output is set in every case, as said at each function, and its memory need not be initialised. */
 #ifndef SUMOPINE_H
 #define SUMOPINE_H
 

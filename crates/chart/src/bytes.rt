@@ -69,16 +69,15 @@ pub fn put8(s: &mut [u8], at: usize, value: u64)
     s[at + 7] = (value % 256) as u8;
 }
 
-// Stores a byte. The branch parts the stores before it from those behind it: the compiler makes one store of eight bytes only where no other
-// stores stand next to them.
+// Stores a byte. The test always holds. It parts the stores before it from those behind it: the compiler makes one store of eight bytes only
+// where no other stores stand next to them. It does not read the byte, which a host need not have initialised.
 pub fn put_byte(s: &mut [u8], at: usize, value: u8)
     requires { ⌜ at < length (now s) ⌝ }
     ensures { λ _. ⌜ now (s .exit) ≡ set (now (s .entry)) at value ⌝ }
 {
-    if s[at] == value {
-        return;
+    if at < s.len() {
+        s[at] = value;
     }
-    s[at] = value;
 }
 
 pub fn zero(s: &mut [u8])

@@ -1,4 +1,4 @@
--- The column of a word's note has four bits. Assumes nothing.
+-- Columns of words: they have four bits, and of circles, spinners and holds the notes differ in nothing else. Assumes nothing.
 use mathlib.Core.Path.{_≡_, refl, sym, subst}
 use Prim.Native.Nat.{ℕ, _%_, _^_, _<_}
 use native.Mathlib.Nat.{mod-lt}
@@ -7,11 +7,11 @@ use lib.Dec.{eqb}
 use lib.Ieee.{Float, le}
 use lib.Pow.{pow-pos}
 use Rattle.rules.specs.Rule.{if_then_else_}
+use Rattle.chart.specs.declared.Note as Patterns
 use Rattle.model.specs.declared.Object.{Object}
-use Rattle.model.specs.declared.Kind.{Kind}
-use Rattle.model.specs.declared.Kind.the-variants.{Circle, Slider, Spinner, Hold}
 use Rattle.mania.specs.declared.Note.{Note}
 use Rattle.mania.specs.declared.SliderNote.{SliderNote}
+use Rattle.mania.specs.Chart.{patternOf}
 use Rattle.mania.specs.Steps.{double}
 use Rattle.mania.specs.Made.{circle}
 use Rattle.mania.specs.EndTimeObject.{lasting, endNote}
@@ -19,31 +19,43 @@ use Rattle.mania.specs.PathObject.{noteOf}
 use Rattle.circle_notes.specs.Answers.{circleAt}
 use Rattle.end_time_object.specs.Answers.{endNoteAt}
 use Rattle.slider_notes.specs.Words.{ofWord, noteOfWord}
-use Rattle.object.specs.Notes.{noteBy, noteAt}
+use Rattle.notes.specs.Columns.{inColumn}
+
+four-bits : (n : ℕ) → n % 2 ^ 4 < 16
+four-bits n = mod-lt n (pow-pos 4)
 
 -- either of two notes at a column
 either : (b : Bool) (m n : Note) (c : ℕ) → m .column ≡ c → n .column ≡ c → (if b then m else n) .column ≡ c
 either true m n c h k = h
 either false m n c h k = k
 
-end-column : (o : Object) (lasts : Float) (c : ℕ) → endNote o lasts c .column ≡ c
-unfolding endNote circle
-end-column o lasts c = either (le (double 100 1) lasts) _ _ c refl refl
-
 slider-column : (b : SliderNote) → noteOf b .column ≡ b .column
 unfolding noteOf circle
 slider-column b = either (eqb (b .start) (b .end)) _ _ (b .column) refl refl
 
-four-bits : (n : ℕ) → n % 2 ^ 4 < 16
-four-bits n = mod-lt n (pow-pos 4)
+pub slider-narrow : (w : ℕ) → patternOf (noteOfWord w) .column < 16
+unfolding patternOf noteOfWord ofWord
+slider-narrow w = subst (λ (c : ℕ). c < 16) (sym (slider-column (ofWord w))) (four-bits _)
 
-by-kind : (o : Object) (k : Kind) (w : ℕ) → noteBy o k w .column < 16
-unfolding noteBy circleAt circle endNoteAt noteOfWord ofWord
-by-kind o Circle w = four-bits w
-by-kind o (Slider repeats distance node) w = subst (λ (c : ℕ). c < 16) (sym (slider-column (ofWord w))) (four-bits _)
-by-kind o (Spinner duration) w = subst (λ (c : ℕ). c < 16) (sym (end-column o (lasting o duration) (w % 2 ^ 4))) (four-bits w)
-by-kind o (Hold duration) w = subst (λ (c : ℕ). c < 16) (sym (end-column o (lasting o duration) (w % 2 ^ 4))) (four-bits w)
+-- a pattern in a word's column
+abbrev pub rowIn : Patterns.Note → ℕ → Patterns.Note
+rowIn p w = record { column = w % 2 ^ 4; hold = p .hold; start = p .start; duration = p .duration }
 
-pub narrow : (o : Object) (w : ℕ) → noteAt o w .column < 16
-unfolding noteAt
-narrow o w = by-kind o (o .kind) w
+pub row-is : (n : Note) → rowIn (patternOf n) ≡ (λ (w : ℕ). patternOf (inColumn n w))
+unfolding patternOf inColumn
+row-is n = refl
+
+pub circles-in : (start : Float) → inColumn (circle 0 start) ≡ circleAt start
+unfolding inColumn circle circleAt
+circles-in start = refl
+
+ends-by : (b : Bool) (start lasts : Float)
+    → inColumn (if b then record { column = 0; hold = true; start = start; duration = lasts } else circle 0 start)
+    ≡ (λ (w : ℕ). if b then record { column = w % 2 ^ 4; hold = true; start = start; duration = lasts } else circle (w % 2 ^ 4) start)
+unfolding inColumn circle
+ends-by true start lasts = refl
+ends-by false start lasts = refl
+
+pub ends-in : (o : Object) (duration : Float) → inColumn (endNoteAt o duration 0) ≡ endNoteAt o duration
+unfolding endNoteAt endNote
+ends-in o duration = ends-by (le (double 100 1) (lasting o duration)) (o .start) (lasting o duration)

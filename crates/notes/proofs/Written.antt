@@ -1,52 +1,66 @@
--- Notes written one after another. Assumes nothing.
-use mathlib.Core.Path.{_≡_, sym, ap, _∙_}
+-- Rows of a chart written one after another, a row for each word. Assumes nothing.
+use mathlib.Core.Path.{_≡_, refl, sym, ap, _∙_}
 use Prim.Native.Nat.{ℕ, _+_, _*_, _≤_, _<_}
 use native.Mathlib.Numerals.{add-one}
-use native.Mathlib.Nat.{add-zero, le-of-lt}
 use native.Mathlib.Omega.{arith}
-use mathlib.Core.List.{List, [], _∷_, _++_, map, map-append}
-use lib.ListN.{length, take, drop, getD, length-map, take-append-drop}
+use mathlib.Core.List.{List, [], _∷_, _++_, map, map-append, map-map}
+use lib.ListN.{length, take, getD, length-map}
 use lib.Seq.{take-suc, length-take-le}
 use Rattle.chart.specs.declared.Note as Patterns
 use Rattle.chart.specs.Bytes.{splice}
-use Rattle.chart.specs.Laws.Bytes.{splice-next}
-use Rattle.chart.specs.Chart.{noteBytes}
-use Rattle.chart.specs.Chart as Bytes
+use Rattle.chart.specs.Laws.Bytes.{splice-none, splice-next, length-splice}
+use Rattle.chart.specs.Chart.{noteBytes, body}
 use Rattle.chart.specs.Laws.Notes.{length-body, body-append, body-one, length-note}
-use Rattle.model.specs.declared.Object.{Object}
-use Rattle.mania.specs.Chart.{patternOf, body}
-use Rattle.object.specs.Notes.{noteAt}
+use Rattle.mania.specs.declared.Note.{Note}
+use Rattle.mania.specs.Chart.{patternOf}
+use Rattle.mania.specs.Chart as Mania
 
-module _ (o : Object) (words : List ℕ) where
-  -- the bytes of the first i notes
+module _ (row : ℕ → Patterns.Note) (words : List ℕ) where
+  -- the bytes of the first i rows
   abbrev pub sofar : ℕ → List ℕ
-  sofar i = body (map (noteAt o) (take i words))
+  sofar i = body (map row (take i words))
 
   length-sofar : (i : ℕ) → i ≤ length words → length (sofar i) ≡ 17 * i
-  unfolding body
-  length-sofar i h =
-      length-body (map patternOf (map (noteAt o) (take i words)))
-      ∙ ap (λ (n : ℕ). 17 * n) (length-map (map (noteAt o) (take i words)) patternOf ∙ length-map (take i words) (noteAt o) ∙ length-take-le i words h)
+  length-sofar i h = length-body (map row (take i words)) ∙ ap (λ (n : ℕ). 17 * n) (length-map (take i words) row ∙ length-take-le i words h)
 
-  sofar-more : (i : ℕ) → i < length words → sofar (i + 1) ≡ sofar i ++ noteBytes (patternOf (noteAt o (getD words i 0)))
-  unfolding body
+  sofar-more : (i : ℕ) → i < length words → sofar (i + 1) ≡ sofar i ++ noteBytes (row (getD words i 0))
   sofar-more i h =
       let w = getD words i 0 in
-      ap (λ (ws : List ℕ). body (map (noteAt o) ws)) (ap (λ (k : ℕ). take k words) (add-one i) ∙ take-suc words i 0 h)
-      ∙ ap body (map-append (noteAt o) (take i words) (w ∷ []))
-      ∙ ap Bytes.body (map-append patternOf (map (noteAt o) (take i words)) (noteAt o w ∷ []))
-      ∙ body-append (map patternOf (map (noteAt o) (take i words))) (patternOf (noteAt o w) ∷ [])
-      ∙ ap (λ (v : List ℕ). sofar i ++ v) (body-one (patternOf (noteAt o w)))
+      ap (λ (ws : List ℕ). body (map row ws)) (ap (λ (k : ℕ). take k words) (add-one i) ∙ take-suc words i 0 h)
+      ∙ ap body (map-append row (take i words) (w ∷ []))
+      ∙ body-append (map row (take i words)) (row w ∷ [])
+      ∙ ap (λ (v : List ℕ). sofar i ++ v) (body-one (row w))
 
-  -- one note more
-  pub put-next : (s s₀ : List ℕ) (at i : ℕ) (n : Patterns.Note) → i < length words → at + 17 * i + 17 ≤ length s₀ → s ≡ splice s₀ at (sofar i)
-      → n ≡ patternOf (noteAt o (getD words i 0)) → splice s (at + 17 * i) (noteBytes n) ≡ splice s₀ at (sofar (i + 1))
-  put-next s s₀ at i n h r e f =
-      let j : at + 17 * i ≡ at + length (sofar i) = ap (λ (k : ℕ). at + k) (sym (length-sofar i (le-of-lt h))) in
-      ap (λ (x : List ℕ). splice x (at + 17 * i) (noteBytes n)) e
+  -- what a loop over the words keeps: the first i rows are written, and all other bytes are as they were
+  pub record Wrote (count : ℕ) (s₀ : List ℕ) (at : ℕ) (s : List ℕ) (i : ℕ) : Type 0 where
+    pub within : i ≤ count
+    pub is : s ≡ splice s₀ at (sofar i)
+    pub size : length s ≡ length s₀
+
+  pub none-yet : (count : ℕ) (s : List ℕ) (at : ℕ) → at ≤ length s → Wrote count s at s 0
+  unfolding body
+  none-yet count s at h = record { within = omega arith; is = sym (splice-none s at h); size = refl }
+
+  -- one row more
+  pub put-next : {n : Patterns.Note} {t : List ℕ} (count : ℕ) (s₀ : List ℕ) (at : ℕ) (s : List ℕ) (i : ℕ) → Wrote count s₀ at s i → i < count → count ≤ length words
+      → at + 17 * count ≤ length s₀ → n ≡ row (getD words i 0) → t ≡ splice s (at + 17 * i) (noteBytes n) → Wrote count s₀ at t (i + 1)
+  put-next {n} {t} count s₀ at s i w h l r e f =
+      let j : at + 17 * i ≡ at + length (sofar i) = ap (λ (k : ℕ). at + k) (sym (length-sofar i (omega arith))) in
+      let is : t ≡ splice s₀ at (sofar (i + 1)) =
+      f
+      ∙ ap (λ (x : List ℕ). splice x (at + 17 * i) (noteBytes n)) (w .is)
       ∙ splice-next s₀ at (sofar i) (at + 17 * i) (noteBytes n) j (omega (arith, length-note n))
-      ∙ ap (splice s₀ at) (ap (λ (m : Patterns.Note). sofar i ++ noteBytes m) f ∙ sym (sofar-more i h))
+      ∙ ap (splice s₀ at) (ap (λ (m : Patterns.Note). sofar i ++ noteBytes m) e ∙ sym (sofar-more i (omega arith))) in
+      let size : length t ≡ length s₀ = ap length is ∙ length-splice s₀ at (sofar (i + 1)) (omega (arith, length-sofar (i + 1) (omega arith))) in
+      record { within = omega arith; is = is; size = size }
 
-  pub none-yet : (s : List ℕ) (at : ℕ) → s ≡ splice s at (sofar 0)
-  unfolding splice body Bytes.body
-  none-yet s at = sym (ap (λ (k : ℕ). take at s ++ drop k s) (add-zero at) ∙ take-append-drop at s)
+  -- all rows, as the notes whose patterns they are
+  pub all-written : (note : ℕ → Note) (count : ℕ) (s₀ : List ℕ) (at : ℕ) (s : List ℕ) (i : ℕ) → Wrote count s₀ at s i → count ≤ i → row ≡ (λ (w : ℕ). patternOf (note w))
+      → s ≡ splice s₀ at (Mania.body (map note (take count words)))
+  unfolding Mania.body
+  all-written note count s₀ at s i w end e =
+      let all : i ≡ count = omega arith in
+      w .is
+      ∙ ap (λ (k : ℕ). splice s₀ at (sofar k)) all
+      ∙ ap (λ (f : ℕ → Patterns.Note). splice s₀ at (body (map f (take count words)))) e
+      ∙ ap (λ (ns : List Patterns.Note). splice s₀ at (body ns)) (sym (map-map patternOf note (take count words)))

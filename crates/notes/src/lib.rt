@@ -1,15 +1,20 @@
 // An object's notes, from the words that its generator left to the bytes of a chart.
 ghost use mathlib.Core.Path.{_≡_};
 ghost use mathlib.Core.List.{map};
-ghost use Prim.Native.Nat.{_+_, _*_, _≤_};
+ghost use Prim.Native.Nat.{_+_, _*_, _≤_, _<_};
 ghost use lib.ListN.{length, take};
 ghost use Rattle.chart.specs.Bytes.{splice};
 ghost use Rattle.mania.specs.Chart.{patternOf, body};
+ghost use Rattle.mania.specs.Made as Made;
+ghost use Rattle.slider_notes.specs.Words.{noteOfWord};
 ghost use Rattle.object.specs.Notes.{noteAt};
+ghost use Rattle.notes.specs.Columns.{inColumn};
+use mania::Note;
+use model::Kind;
 use model::Object;
 
 // A note with its times as bit patterns.
-fn pattern_of(n: mania::Note) -> chart::Note
+fn pattern_of(n: Note) -> chart::Note
     ensures { λ r. ⌜ r ≡ patternOf n ⌝ }
 {
     let start = floats::bits_f64(n.start);
@@ -22,16 +27,87 @@ fn pattern_of(n: mania::Note) -> chart::Note
     }
 }
 
-// Writes the notes of the first `count` words, 17 bytes each, from index `at` on. All other bytes keep their values.
+// A circle in column 0.
+fn circle(start: f64) -> Note
+    ensures { λ r. ⌜ r ≡ Made.circle 0 start ⌝ }
+{
+    Note {
+        column: 0,
+        hold: false,
+        start,
+        duration: 0.0,
+    }
+}
+
+// `value`. The test always holds, but the compiler cannot know: otherwise it would split a value that is the same in every round of a loop into
+// bytes before the loop, and store them one by one.
+fn pinned(value: u64, i: usize, size: usize) -> u64
+    requires { ⌜ i < size ⌝ }
+    ensures { λ r. ⌜ r ≡ value ⌝ }
+{
+    if i < size { value } else { 0 }
+}
+
+// Writes the note `n` once for each of the first `count` words, in the word's column. Its times become bit patterns once, before the loop.
+fn put_in_columns(n: Note, words: &[u64], count: usize, s: &mut [u8], at: usize)
+    requires { ⌜ (count ≤ length (now words)) × (at + 17 * count ≤ length (now s)) ⌝ }
+    ensures { λ _. ⌜ now (s .exit) ≡ splice (now (s .entry)) at (body (map (inColumn n) (take count (now (words .entry))))) ⌝ }
+{
+    let p = pattern_of(n);
+    let mut i = 0;
+    while i < count {
+        let row = chart::Note {
+            column: (words[i] % 16) as u8,
+            hold: p.hold,
+            start: pinned(p.start, i, words.len()),
+            duration: pinned(p.duration, i, words.len()),
+        };
+        chart::rows::put_note(s, at + 17 * i, row);
+        i += 1;
+    }
+}
+
+// Writes a slider's notes: each word has its own start and end.
+fn put_slider_notes(words: &[u64], count: usize, s: &mut [u8], at: usize)
+    requires { ⌜ (count ≤ length (now words)) × (at + 17 * count ≤ length (now s)) ⌝ }
+    ensures { λ _. ⌜ now (s .exit) ≡ splice (now (s .entry)) at (body (map noteOfWord (take count (now (words .entry))))) ⌝ }
+{
+    let mut i = 0;
+    while i < count {
+        let n = slider_notes::note_of(words[i]);
+        let p = pattern_of(n);
+        chart::rows::put_note(s, at + 17 * i, p);
+        i += 1;
+    }
+}
+
+// Writes the notes of the first `count` words, 17 bytes each, from index `at` on. All other bytes keep their values. The kinds are told apart
+// before any loop, so that nothing depends on a duration that the kind does not have.
 pub fn put_notes(o: Object, words: &[u64], count: usize, s: &mut [u8], at: usize)
     requires { ⌜ (count ≤ length (now words)) × (at + 17 * count ≤ length (now s)) ⌝ }
     ensures { λ _. ⌜ now (s .exit) ≡ splice (now (s .entry)) at (body (map (noteAt o) (take count (now (words .entry))))) ⌝ }
 {
-    let mut i = 0;
-    while i < count {
-        let n = object::note_at(o, words[i]);
-        let p = pattern_of(n);
-        chart::rows::put_note(s, at + 17 * i, p);
-        i += 1;
+    let kind = o.kind;
+    match kind {
+        Kind::Circle => put_in_columns(circle(o.start), words, count, s, at),
+        Kind::Slider {
+            repeats: _,
+            distance: _,
+            node: _,
+        } => put_slider_notes(words, count, s, at),
+        Kind::Spinner(duration) => put_in_columns(
+            end_time_object::end_note_at(o, duration, 0),
+            words,
+            count,
+            s,
+            at,
+        ),
+        Kind::Hold(duration) => put_in_columns(
+            end_time_object::end_note_at(o, duration, 0),
+            words,
+            count,
+            s,
+            at,
+        ),
     }
 }

@@ -9,10 +9,8 @@ ghost use Rattle.mania.specs.PathObject as PathObject;
 ghost use Rattle.pattern.specs.Answers.{Generates};
 ghost use Rattle.circle_notes.specs.Answers.{circleAt};
 ghost use Rattle.slider_notes.specs.Words.{noteOfWord};
-ghost use Rattle.object.specs.Notes.{noteAt};
 ghost use Rattle.object.specs.Contract.{Asks, Ends};
 use mania::Facts;
-use mania::Note;
 use mania::PrevValues;
 use model::Distance;
 use model::Kind;
@@ -20,35 +18,6 @@ use model::NodeSound;
 use model::Object;
 use pattern::ObjectEnd;
 use random::Draws;
-
-// A circle at a start; a word's column is its lowest 4 bits.
-fn circle_at(start: f64, w: u64) -> Note
-    ensures { λ r. ⌜ r ≡ circleAt start w ⌝ }
-{
-    Note {
-        column: (w % 16) as u8,
-        hold: false,
-        start,
-        duration: 0.0,
-    }
-}
-
-// The note of a word that `generate` left.
-pub fn note_at(o: Object, w: u64) -> Note
-    ensures { λ r. ⌜ r ≡ noteAt o w ⌝ }
-{
-    let kind = o.kind;
-    match kind {
-        Kind::Circle => circle_at(o.start, w),
-        Kind::Slider {
-            repeats,
-            distance,
-            node,
-        } => slider_notes::note_of(w),
-        Kind::Spinner(duration) => end_time_object::end_note_at(o, duration, w),
-        Kind::Hold(duration) => end_time_object::end_note_at(o, duration, w),
-    }
-}
 
 // A circle's notes.
 fn generate_circle(

@@ -1,98 +1,103 @@
--- `notes::put_notes` meets its contract. The loop's invariant: the first i notes are written. Assumes nothing.
-use mathlib.Core.Path.{_≡_, sym, ap, _∙_, subst}
-use Prim.Native.Nat.{ℕ, _-_, _≤_, _<_}
-use native.Mathlib.Omega.{arith}
-use lib.ListN.{length, getD}
-use Rattle.chart.specs.declared.Note as Patterns
-use Rattle.chart.specs.Bytes.{splice}
-use Rattle.mania.specs.declared.Note.{Note}
-use Rattle.mania.specs.Chart.{patternOf}
-use Rattle.object.specs.Notes.{noteAt}
-use Rattle.notes.proofs.Columns.{narrow}
-use Rattle.notes.proofs.Written.{sofar, put-next, none-yet}
+-- `notes::put_notes` meets its contract, kind by kind. Assumes nothing.
+use mathlib.Core.Path.{_∙_}
+use Rattle.object.specs.Notes.{noteBy, noteAt}
+use borrow.Author.Needs.{needs}
+use Rattle.notes.proofs.Columns.{circles-in, ends-in}
 use Rattle.notes.proofs.put_notes.Statement.{statement}
 use Rattle.notes.proofs.put_notes.Tie as tie
 
-abbrev Inv-loop : tie.InvT-loop
-Inv-loop o words count s₀ at i₀ s i = (i ≤ count) × (s ≡ splice s₀ at (sofar o words i)) × (length s ≡ length s₀)
+enum-told : tie.Need-enum-told
+enum-told c = search needs
 
-abbrev μ-loop : tie.MeasureT-loop
-μ-loop o words count s₀ at i₀ s i = count - i
+circle-requires : tie.Need-circle-requires
+circle-requires c κs = search needs
 
-loop-holds : tie.Need-loop-holds Inv-loop μ-loop
-loop-holds c = let a = c .before .before .args in (omega arith, none-yet (a .o) (a .words .now) (a .s .now) (a .at), omega arith)
+put-in-columns-requires : tie.Need-put-in-columns-requires
+put-in-columns-requires c κs = search needs
 
-mul-note-at : tie.Need-mul-note-at Inv-loop μ-loop
-mul-note-at c = omega arith
+enum-told-2 : tie.Need-enum-told-2
+enum-told-2 c = search needs
 
-shared-slice-read-note-at : tie.Need-shared-slice-read-note-at Inv-loop μ-loop
-shared-slice-read-note-at c = omega arith
+put-slider-notes-requires : tie.Need-put-slider-notes-requires
+put-slider-notes-requires c κs = search needs
 
-note-at-requires : tie.Need-note-at-requires Inv-loop μ-loop
-note-at-requires c κs = tt
+enum-known-kind : tie.Need-enum-known-kind
+enum-known-kind c = search needs
 
-pattern-of-requires : tie.Need-pattern-of-requires Inv-loop μ-loop
-pattern-of-requires c κs = tt
+end-note-at-requires : tie.Need-end-note-at-requires
+end-note-at-requires c κs = search needs
 
-mul-put-note : tie.Need-mul-put-note Inv-loop μ-loop
-mul-put-note c = omega arith
+put-in-columns-requires-2 : tie.Need-put-in-columns-requires-2
+put-in-columns-requires-2 c κs = search needs
 
-add-put-note : tie.Need-add-put-note Inv-loop μ-loop
-add-put-note c = omega arith
+enum-known-kind-2 : tie.Need-enum-known-kind-2
+enum-known-kind-2 c = search needs
 
--- the note of the word at hand, as the code has it
-got : (c : tie.After-pattern-of Inv-loop μ-loop)
-    → c .pattern-of .result
-    ≡ patternOf (noteAt (c .before .before .before .before .before .before .before .args .o) (getD (c .before .before .before .before .before .before .before .args .words .now) (c .before .before .before .before .loop .i) 0))
-got c = c .pattern-of .ensures ∙ ap patternOf (c .before .note-at .ensures)
+end-note-at-requires-2 : tie.Need-end-note-at-requires-2
+end-note-at-requires-2 c κs = search needs
 
-put-note-requires : tie.Need-put-note-requires Inv-loop μ-loop
-unfolding patternOf
-put-note-requires c κs =
-    (subst (λ (n : Patterns.Note). n .column < 16) (sym (got (c .before))) (narrow _ _), omega arith)
+put-in-columns-requires-3 : tie.Need-put-in-columns-requires-3
+put-in-columns-requires-3 c κs = search needs
 
-add-i : tie.Need-add-i Inv-loop μ-loop
-add-i c = omega arith
+same-length : tie.Need-same-length
+same-length c = search needs
 
-loop-less : tie.Need-loop-less Inv-loop μ-loop
-loop-less c = omega arith
-
-loop-again : tie.Need-loop-again Inv-loop μ-loop
-loop-again c =
-    let k = c .before .before in
-    let l = k .before .before .before .before .before .before .loop in
-    let a = k .before .before .before .before .before .before .before .before .before .args in (
-      omega arith,
-      k .put-note .ensures ∙ put-next (a .o) (a .words .now) (l .s) (a .s .now) (a .at) (l .i) (k .before .before .pattern-of .result) (omega arith) (omega arith) (l .inv .1) (got (k .before .before)),
-      omega arith,
-    )
-
-same-length : tie.Need-same-length Inv-loop μ-loop
-same-length c = omega arith
-
-returns : tie.Need-returns Inv-loop μ-loop
+returns : tie.Need-returns
+unfolding noteAt noteBy
 returns c =
-    let l = c .before .loop in
-    let a = c .before .before .before .before .args in
-    let e : l .i ≡ a .count = omega arith in
-    l .inv .1 ∙ ap (λ (k : ℕ). splice (a .s .now) (a .at) (sofar (a .o) (a .words .now) k)) e
+    let put = c .before .before in
+    let made = put .before .before in
+    put .put-in-columns .ensures ∙ rw (made .circle .ensures, circles-in, made .before .enum-told .given .1)
+
+same-length-2 : tie.Need-same-length-2
+same-length-2 c = search needs
+
+returns-2 : tie.Need-returns-2
+unfolding noteAt noteBy
+returns-2 c =
+    let put = c .before .before in
+    put .put-slider-notes .ensures ∙ rw (put .before .before .enum-told2 .given .1)
+
+same-length-3 : tie.Need-same-length-3
+same-length-3 c = search needs
+
+returns-3 : tie.Need-returns-3
+unfolding noteAt noteBy
+returns-3 c =
+    let put = c .before .before in
+    let made = put .before .before in
+    put .put-in-columns2 .ensures ∙ rw (made .end-note-at .ensures, ends-in, made .before .before .kind .given .1)
+
+same-length-4 : tie.Need-same-length-4
+same-length-4 c = search needs
+
+returns-4 : tie.Need-returns-4
+unfolding noteAt noteBy
+returns-4 c =
+    let put = c .before .before in
+    let made = put .before .before in
+    put .put-in-columns3 .ensures ∙ rw (made .end-note-at2 .ensures, ends-in, made .before .before .kind2 .given .1)
 
 pub put-notes-spec : {M : Type 1} → statement M
 put-notes-spec =
     tie.close
     (tie.spec
-    Inv-loop
-    μ-loop
-    loop-holds
-    mul-note-at
-    shared-slice-read-note-at
-    note-at-requires
-    pattern-of-requires
-    mul-put-note
-    add-put-note
-    put-note-requires
-    add-i
-    loop-less
-    loop-again
+    enum-told
+    circle-requires
+    put-in-columns-requires
+    enum-told-2
+    put-slider-notes-requires
+    enum-known-kind
+    end-note-at-requires
+    put-in-columns-requires-2
+    enum-known-kind-2
+    end-note-at-requires-2
+    put-in-columns-requires-3
     same-length
-    returns)
+    returns
+    same-length-2
+    returns-2
+    same-length-3
+    returns-3
+    same-length-4
+    returns-4)
