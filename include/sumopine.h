@@ -42,8 +42,9 @@ enum {
  * 0         the chart's bytes  0                   0               the chart; later bytes keep their values
  * 1 to 12   0                  the object's index  draws so far    all zero
  *
- * The object's index counts from 0, and is 0 where the record is refused (1 to 7) or the buffer is under 8 bytes (11). A chart has its
- * draws in its header, which `sumopine_read_chart` gives. The record is only read. */
+ * The object's index counts from 0, and is 0 where the record is refused (1 to 7) or the buffer is under 8 bytes (11). 9 and 10 are never
+ * returned: no song comes to them, only `sumopine_object` with a previous pattern of the caller's making. A chart has its draws in its header,
+ * which `sumopine_read_chart` gives. The record is only read. */
 uint32_t sumopine_convert(const uint8_t *record, size_t record_len, uint8_t *chart, size_t chart_len, uint32_t allowance,
                           uint64_t *length, uint32_t *object, uint32_t *draws);
 

@@ -50,6 +50,7 @@ module _ (bytes buffer : List ℕ) where
         condition = λ a r i n x e.
             let h = answer a (J.Refused r i n) x e in
             (refusals bytes buffer .holds a r i n h, ap (λ (j : Job). j .chart) e ∙ refusals bytes buffer .zeroed a r i n h);
+        never = λ a r i n x e. let c = refusals bytes buffer .holds a r i n (answer a (J.Refused r i n) x e) in (c .not-9, c .not-10);
         whole = λ a i n x e.
             let h = answer a (J.Refused 12 i n) x e in
             d .told a 12 i n h ∙ d .whole a (i, n, h);

@@ -25,6 +25,8 @@ Other r = Spent r → ⊥
 pub record Demand (bytes buffer : List ℕ) : Type 0 where
   -- a number is given only under its condition, and the buffer is then zero
   pub condition : (a r i n : ℕ) (x : List ℕ) → Answers bytes buffer a (J.Refused r i n) x → Condition bytes buffer a r i n × (x ≡ replicate (length buffer) 0)
+  -- 9 and 10 are never given
+  pub never : (a r i n : ℕ) (x : List ℕ) → Answers bytes buffer a (J.Refused r i n) x → (r ≡ 9 → ⊥) × (r ≡ 10 → ⊥)
   -- 12 tells that the whole allowance was used
   pub whole : (a i n : ℕ) (x : List ℕ) → Answers bytes buffer a (J.Refused 12 i n) x → n ≡ a
   -- after an end other than by 12, a call ends by 12 below the draws made

@@ -1,7 +1,6 @@
 -- What is true where a job is refused. Assumes nothing.
-use mathlib.Core.Path.{_≡_, refl, sym, ap, _∙_, subst}
-use Prim.Native.Nat.{ℕ, _+_, _≤_}
-use native.Mathlib.Nat.{zero-add}
+use mathlib.Core.Path.{_≡_, refl, sym, ap, _∙_}
+use Prim.Native.Nat.{ℕ, _≤_}
 use native.Mathlib.Omega.{arith}
 use mathlib.Core.List.{List}
 use lib.ListN.{length, replicate}
@@ -14,16 +13,18 @@ use Rattle.random.specs.Laws.Allowance.{lawful}
 use Rattle.model.specs.Song.{Song}
 use Rattle.mania.specs.declared.Note.{Note}
 use Rattle.mania.specs.Convert.{AtObject, at, seed, columnsOf, convert}
-use Rattle.mania.specs.Refusals.{LateAt, KindAt, IsCircle, NoCircle, InWalk}
+use Rattle.mania.specs.Refusals.{InWalk}
 use Rattle.mania.specs.Job.{Answer, refusal, ending, refusing, under}
 use Rattle.mania.specs.Job as OfSong
 use Rattle.mania.proofs.Eleven.{job-eleven}
 use Rattle.mania.proofs.Meets.{refused-meets}
-use Rattle.mania.proofs.Conditions.{convert-ends}
+use Rattle.mania.proofs.Reach.{convert-ends, reasons}
+use Rattle.mania.proofs.Eight.{job-eight}
 use Rattle.mania.proofs.Demand.{few-columns}
 use Rattle.record.specs.Record.{Parsed, refused, accepted, parse}
-use Rattle.job.specs.Job.{jobOf, job, columnsIn, columns}
+use Rattle.job.specs.Job.{jobOf, job}
 use Rattle.job.specs.Refusals.{Condition, Refusals}
+use Rattle.job.specs.NeverBlocked.{NeverBlocked}
 use Rattle.job.proofs.Numbers.{accepted-none, refused-none, refused-number}
 use Rattle.job.proofs.Numbers.{accepted-keys}
 use Rattle.job.proofs.Demand.{refuses, number, index, count}
@@ -67,21 +68,14 @@ zeroed-of c buffer (Rule.refused q m) r i n e = refl
 zeroed-of c buffer (spent q m) r i n e = refl
 
 -- a refused outcome, from its answer
-outcome : (x : AtObject) (m r i n : ℕ) → refusal (Refusal.number (x .refusal)) (x .object) m ≡ refusal r i n → r ≡ 11
-    → _≡_ {A = Outcome ℕ AtObject (List (List Note))} (Rule.refused x m) (Rule.refused (at i tooShort) n)
-outcome x m r i n e k =
-    ap (λ (y : Refusal). Rule.refused (at (x .object) y) m) (is-short (x .refusal) (ap number e ∙ k))
-    ∙ ap (λ (y : ℕ). Rule.refused (at y tooShort) m) (ap index e)
-    ∙ ap (λ (y : ℕ). Rule.refused (at i tooShort) y) (ap count e)
+outcome : (q : Refusal) (x : AtObject) (m r i n : ℕ) → refusal (Refusal.number (x .refusal)) (x .object) m ≡ refusal r i n → x .refusal ≡ q
+    → _≡_ {A = Outcome ℕ AtObject (List (List Note))} (Rule.refused x m) (Rule.refused (at i q) n)
+outcome q x m r i n e k =
+    ap (λ (y : Refusal). Rule.refused (at (x .object) y) m) k ∙ ap (λ (y : ℕ). Rule.refused (at y q) m) (ap index e) ∙ ap (λ (y : ℕ). Rule.refused (at i q) y) (ap count e)
 
 module _ (bytes buffer : List ℕ) (s : Song) (p : parse bytes ≡ accepted s) (a r i n : ℕ) where
-  -- an index from 0 on
-  index-of : (P : ℕ → Type 0) (x k : ℕ) → x ≡ 0 + k → x ≡ i → P k → P i
-  index-of P x k e j h = subst P (sym (zero-add k) ∙ sym e ∙ j) h
-
-  columns-are : columns bytes ≡ columnsOf s
-  unfolding columns columnsIn
-  columns-are = ap columnsIn p
+  deck : columnsOf s ≤ 9
+  deck = few-columns s (accepted-keys bytes s p)
 
   by-outcome : (o : Outcome ℕ AtObject (List (List Note))) → under s buffer a ≡ o → ending (columnsOf s) buffer o .answer ≡ refusal r i n → Condition bytes buffer a r i n
   unfolding ending refusing under
@@ -89,20 +83,16 @@ module _ (bytes buffer : List ℕ) (s : Song) (p : parse bytes ≡ accepted s) (
   by-outcome (Rule.refused x m) u e =
       let is : Refusal.number (x .refusal) ≡ r = ap number e in
       let in-table = numbered (x .refusal) in
-      let at-object : InWalk s (columnsOf s) 0 (s .objects) x = refused-meets (convert s (length buffer)) (convert-ends s (length buffer) (few-columns s (accepted-keys bytes s p))) a (seeded (seed (s .settings))) x m u in
+      let in-walk : InWalk s 0 (s .objects) x = refused-meets (convert s (length buffer)) (convert-ends s (length buffer) deck) a (seeded (seed (s .settings))) x m u in
       record {
         from = omega (arith, in-table .0);
         to = omega (arith, in-table .1);
         unread = λ h. absurd (omega (arith, in-table .0));
         whole = λ h. accepted-none bytes s p;
-        late = λ h. let k = at-object .late (is-late (x .refusal) (is ∙ h)) in (s, p, index-of (LateAt s (s .objects)) (x .object) (k .0) (k .1) (ap index e) (k .2));
-        blocked = λ h.
-            let k = at-object .blocked (is-blocked (x .refusal) (is ∙ h)) in
-            (columns-are ∙ k .0, (s, p, index-of (KindAt NoCircle (s .objects)) (x .object) (k .1 .0) (k .1 .1) (ap index e) (k .1 .2)));
-        below = λ h.
-            let k = at-object .below (is-off (x .refusal) (is ∙ h)) in
-            (columns-are ∙ k .0, (s, p, index-of (KindAt IsCircle (s .objects)) (x .object) (k .1 .0) (k .1 .1) (ap index e) (k .1 .2)));
-        short = λ h. (s, p, job-eleven s (few-columns s (accepted-keys bytes s p)) buffer a i n (u ∙ outcome x m r i n e h));
+        late = λ h. (s, p, job-eight s deck buffer a i n (u ∙ outcome lateEnd x m r i n e (is-late (x .refusal) (is ∙ h))));
+        not-9 = λ h. in-walk .found (is-blocked (x .refusal) (is ∙ h));
+        not-10 = λ h. in-walk .on (is-off (x .refusal) (is ∙ h));
+        short = λ h. (s, p, job-eleven s deck buffer a i n (u ∙ outcome tooShort x m r i n e (is-short (x .refusal) (is ∙ h))));
         drawn = λ h. absurd (omega (arith, in-table .1));
       }
   by-outcome (spent x m) u e =
@@ -114,8 +104,8 @@ module _ (bytes buffer : List ℕ) (s : Song) (p : parse bytes ≡ accepted s) (
         unread = λ h. absurd (omega arith);
         whole = λ h. accepted-none bytes s p;
         late = λ h. absurd (omega arith);
-        blocked = λ h. absurd (omega arith);
-        below = λ h. absurd (omega arith);
+        not-9 = λ h. omega arith;
+        not-10 = λ h. omega arith;
         short = λ h. absurd (omega arith);
         drawn = λ k. (sym (ap count e) ∙ w, (s, p, u ∙ ap (λ (j : ℕ). spent j m) (ap index e) ∙ ap (λ (j : ℕ). spent i j) w));
       }
@@ -132,8 +122,8 @@ of-parsed bytes buffer (refused m) p a r i n e =
       unread = λ k. (refused-none bytes m p ∙ is, sym (ap index e), sym (ap count e));
       whole = λ k. absurd (omega (arith, small .1));
       late = λ k. absurd (omega (arith, small .1));
-      blocked = λ k. absurd (omega (arith, small .1));
-      below = λ k. absurd (omega (arith, small .1));
+      not-9 = λ k. omega (arith, small .1);
+      not-10 = λ k. omega (arith, small .1);
       short = λ k. absurd (omega (arith, small .1));
       drawn = λ k. absurd (omega (arith, small .1));
     }
@@ -159,4 +149,13 @@ refusals bytes buffer =
       holds = refused-by bytes buffer;
       zeroed = λ a r i n e. zeroed-by (parse bytes) buffer a r i n e;
       else = λ a h. accepted-else bytes buffer a (job bytes buffer a .answer) refl h;
+    }
+
+-- so 9 and 10 never come
+pub never-blocked : (bytes buffer : List ℕ) → NeverBlocked bytes buffer
+never-blocked bytes buffer =
+    record {
+      nine = λ a i n e. refused-by bytes buffer a 9 i n e .not-9 refl;
+      ten = λ a i n e. refused-by bytes buffer a 10 i n e .not-10 refl;
+      reached = λ s p k a n w e. reasons .reached s (few-columns s (accepted-keys bytes s p)) k a n (seeded (seed (s .settings))) w e;
     }

@@ -3,3 +3,4 @@ pub mod Job
 pub mod Demand
 pub mod Read
 pub mod Refusals
+pub mod NeverBlocked

@@ -6,11 +6,11 @@ use mathlib.Core.List.{List}
 use lib.ListN.{length, replicate}
 use Rattle.rules.specs.Rule.{spent}
 use Rattle.model.specs.Song.{Song}
-use Rattle.mania.specs.Refusals.{LateAt, KindAt, IsCircle, NoCircle, TooLong}
+use Rattle.mania.specs.Refusals.{TooLate, TooLong}
 use Rattle.mania.specs.Job.{refusal, under}
 use Rattle.mania.specs.Job as OfSong
 use Rattle.record.specs.Record.{recordRefusal, accepted, parse}
-use Rattle.job.specs.Job.{job, columns}
+use Rattle.job.specs.Job.{job}
 
 -- Of the record's bytes with a buffer lent under the allowance a: the condition of a refusal by r at object i after n draws.
 pub record Condition (bytes buffer : List ℕ) (a r i n : ℕ) : Type 0 where
@@ -21,12 +21,11 @@ pub record Condition (bytes buffer : List ℕ) (a r i n : ℕ) : Type 0 where
   pub unread : r ≤ 7 → (recordRefusal bytes ≡ r) × (i ≡ 0) × (n ≡ 0)
   -- 8 to 12: no condition of the record applies
   pub whole : 8 ≤ r → recordRefusal bytes ≡ 0
-  -- 8: the object is a slider that ends above 33,554,431
-  pub late : r ≡ 8 → (s : Song) × (parse bytes ≡ accepted s) × LateAt s (s .objects) i
-  -- 9: there are 8 columns, and the object is no circle
-  pub blocked : r ≡ 9 → (columns bytes ≡ 8) × ((s : Song) × (parse bytes ≡ accepted s) × KindAt NoCircle (s .objects) i)
-  -- 10: there are 8 columns, and the object is a circle
-  pub below : r ≡ 10 → (columns bytes ≡ 8) × ((s : Song) × (parse bytes ≡ accepted s) × KindAt IsCircle (s .objects) i)
+  -- 8: the objects before made their notes, after n draws, and the object is a slider that ends above 33,554,431
+  pub late : r ≡ 8 → (s : Song) × (parse bytes ≡ accepted s) × TooLate s (length buffer) a i n
+  -- never 9 or 10: see NeverBlocked.antt
+  pub not-9 : r ≡ 9 → ⊥
+  pub not-10 : r ≡ 10 → ⊥
   -- 11: the buffer is under 8 bytes, or too short for the notes of the objects so far
   pub short : r ≡ 11 → (s : Song) × (parse bytes ≡ accepted s) × ((length buffer < 8) ⊎ TooLong s (length buffer) a i n)
   -- 12: a draw was needed and none was left; the whole allowance was drawn

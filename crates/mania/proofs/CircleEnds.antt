@@ -163,7 +163,15 @@ module _ (Q : Refusal → Type 0) (g : HitObjectPatternGenerator) (some : 2 ≤ 
   unfolding HitObject.capped HitObject.caps HitObject.percent
   none-3 c h e = subst (λ (t : ℕ). None (HitObject.capped t c .p3)) (sym e) (h .p3-none)
 
-  -- at most three notes, and two where there are two columns
+  -- at most three notes
+  three-of : (c : HitObject.Chances) → Rare c → Meets Q (λ n. n ≤ 3) (HitObject.countOf g c)
+  unfolding HitObject.countOf
+  three-of c h = at-most-3 _ _ _ _ _ (none-5 c h) none-zero (none-4 c h)
+
+  pub three-notes : (difficulty : Float) (rare : Bool) → Meets Q (λ n. n ≤ 3) (HitObject.countOf g (HitObject.chancesBy difficulty rare))
+  three-notes difficulty rare = three-of _ (rows-rare difficulty rare)
+
+  -- and two where there are two columns
   rare-count : (c : HitObject.Chances) → Rare c → Meets Q (λ n. n ≤ T - low) (HitObject.countOf g c)
   unfolding HitObject.countOf
   rare-count c h = go (eqb T 2) refl
@@ -182,7 +190,7 @@ module _ (Q : Refusal → Type 0) (g : HitObjectPatternGenerator) (some : 2 ≤ 
       go true e =
           let z = eqb-true T 2 e in
           less (at-most-2 _ _ _ _ _ (none-5 c h) none-zero (none-4 c h) (none-3 c h z)) (λ n l. small n 2 l (omega (arith, two-columns T some))) (λ r q. q)
-      go false e = less (at-most-3 _ _ _ _ _ (none-5 c h) none-zero (none-4 c h)) (λ n l. small n 3 l (wide (eqb-false T 2 e))) (λ r q. q)
+      go false e = less (three-of c h) (λ n l. small n 3 l (wide (eqb-false T 2 e))) (λ r q. q)
 
   pattern : (c : HitObject.Chances) → Rare c → Meets Q Any (HitObject.generateRandomPattern g c)
   unfolding HitObject.generateRandomPattern

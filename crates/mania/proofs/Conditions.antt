@@ -1,28 +1,23 @@
--- The conditions of an object's refusals, and of a walk's. Assumes nothing.
+-- The conditions of an object's refusals. Assumes nothing.
 use mathlib.Core.Path.{_≡_, refl, sym, ap, _∙_, subst}
-use mathlib.Core.Logic.{⊎-elim}
+use mathlib.Core.Logic.{_⊎_, inl, inr, ⊎-elim}
 use Prim.Native.Nat.{ℕ, zero, suc, _+_, _-_, _*_, _/_, _%_, _^_, _≤_, _<_}
-use native.Mathlib.Nat.{add-zero, sub-zero, eq-zero-or-pos}
+use native.Mathlib.Nat.{sub-zero, eq-zero-or-pos}
 use native.Mathlib.Omega.{arith}
 use mathlib.Core.Bool.{Bool, true, false, _||_}
-use mathlib.Core.List.{List, [], _∷_}
-use lib.Dec.{eqb, ltb}
+use lib.Dec.{eqb}
 use lib.Count.{ones, onesIn, ones-le}
 use lib.Ieee.{Float}
-use lib.ListN.{length}
-use lib.Pow.{pow-pos}
-use borrow.Author.Tests.{eqb-true, eqb-false}
-use Rattle.rules.specs.Rule.{Rule, give, refuse, draw, drawUntil, _>>=_, Outcome, ended, spent, run}
+use borrow.Author.Tests.{eqb-true, eqb-false, lt-ltb}
+use Rattle.rules.specs.Rule.{Outcome, ended, spent, run}
 use Rattle.rules.specs.Rule as Rule
 use Rattle.rules.specs.Refusal.{Refusal, lateEnd, noColumn, offDeck, tooShort, number, spentNumber}
 use Rattle.random.specs.Generator.{values}
-use Rattle.random.specs.Play.{Answer, found, refused, on}
+use Rattle.random.specs.Play.{Answer, found, refused, on, play}
 use Rattle.random.specs.declared.Random.{Random}
 use Rattle.random.specs.Laws.Play.{placed, play-run}
 use Rattle.random.specs.declared.Draws.{Draws}
-use Rattle.random.specs.Laws.Gives.{Gives}
 use Rattle.random.specs.Laws.On.{gives}
-use Rattle.model.specs.Song.{Song}
 use Rattle.model.specs.declared.Object.{Object}
 use Rattle.model.specs.declared.Kind.{Kind}
 use Rattle.model.specs.declared.Kind.the-variants.{Circle, Slider, Spinner, Hold}
@@ -31,17 +26,15 @@ use Rattle.mania.specs.declared.PrevValues.{PrevValues}
 use Rattle.mania.specs.Made.{Made}
 use Rattle.mania.specs.Pattern.{free, anyFree}
 use Rattle.mania.specs.PatternGenerator.{randomStart}
-use Rattle.mania.specs.LimitedQueue.{Density}
 use Rattle.mania.specs.HitObject
 use Rattle.mania.specs.PathObject
 use Rattle.mania.specs.EndTimeObject
 use Rattle.mania.specs.Object.{byKind, object}
-use Rattle.mania.specs.Convert.{Walk, AtObject, at, beginning, meets, factsAt, afterObject, objectIn, walk, columnsOf, convert}
-use Rattle.mania.specs.Refusals.{Late, LateAt, Blocked, Below, KindAt, IsCircle, NoCircle, InWalk}
+use Rattle.mania.specs.Refusals.{Late, Blocked, Below}
 use Rattle.mania.proofs.Masks.{bit, taken-bit}
 use Rattle.mania.proofs.Makes as Makes
 use Rattle.mania.proofs.Makes.{Makes, any}
-use Rattle.mania.proofs.Meets.{Ends, Meets, giving, refusing, seq, by, less, labelled, refused-meets}
+use Rattle.mania.proofs.Meets.{Meets, both, makes, refused-meets}
 use Rattle.mania.proofs.Frees.{frees, some-free, room, next-bits}
 use Rattle.mania.proofs.Searching.{never}
 use Rattle.mania.proofs.CircleDeck.{circle-makes}
@@ -49,7 +42,6 @@ use Rattle.mania.proofs.SliderDeck.{slider-makes}
 use Rattle.mania.proofs.CircleEnds.{start-of, circle-ends}
 use Rattle.mania.proofs.SliderEnds.{slider-ends, end-ends}
 use Rattle.mania.proofs.SliderEnds as Searches
-use Rattle.mania.proofs.Demand.{some-columns}
 
 -- ---- a previous pattern that leaves no column
 
@@ -127,24 +119,17 @@ Condition f v columns o k tooShort = ⊥
 abbrev pub Left : ℕ → Made → Type 0
 Left columns m = (m .last < columns) × (m .mask < 2 ^ columns)
 
-with-gives : {W R A : Type 0} (P S : A → Type 0) (Q : R → Type 0) (m : Rule W R A) → Ends S Q m → Gives P m → Ends P Q m
-with-gives P S Q (give a) h g = g
-with-gives P S Q (refuse r) h g = h
-with-gives P S Q (draw w k) h g = λ v l. with-gives P S Q (k v) (h v l) (g v l)
-with-gives P S Q (drawUntil w test k) h g = λ v l e. with-gives P S Q (k v) (h v l e) (g v l e)
+abbrev kind : {A : Type 0} → Answer ℕ A → ℕ
+kind (found a e) = 0
+kind (refused x e) = 1
 
-both : {W R A : Type 0} {P S : A → Type 0} {Q : R → Type 0} {m : Rule W R A} → Meets Q S m → Makes P m → Meets Q P m
-both {P = P} {S = S} {Q = Q} {m = m} h g = record { ends = with-gives P S Q m (h .ends) (g .made) }
+abbrev after : {A : Type 0} → Answer ℕ A → Draws
+after (found a e) = e
+after (refused x e) = e
 
 abbrev said : {A : Type 0} → Answer ℕ A → ℕ
 said (found a e) = 0
 said (refused x e) = x
-
-ends-gives : {W R A : Type 0} (P : A → Type 0) (Q : R → Type 0) (m : Rule W R A) → Ends P Q m → Gives P m
-ends-gives P Q (give a) h = h
-ends-gives P Q (refuse r) h = tt
-ends-gives P Q (draw w k) h = λ v l. ends-gives P Q (k v) (h v l)
-ends-gives P Q (drawUntil w test k) h = λ v l e. ends-gives P Q (k v) (h v l e)
 
 module _ (f : Facts) (v : PrevValues) (columns : ℕ) (o : Object) (some : 1 ≤ columns) (deck : columns ≤ 9) (mask : v .mask < 2 ^ columns) (last : v .last < columns) where
   end-left : (duration : Float) → Makes (Left columns) (EndTimeObject.generate v columns o duration)
@@ -173,107 +158,49 @@ module _ (f : Facts) (v : PrevValues) (columns : ℕ) (o : Object) (some : 1 ≤
 
   -- what the next object meets, where the object's rule was played
   pub object-left : (d : Draws) (m : Made) (e : Draws) → on (object f v columns o) d ≡ found m e → Left columns m
-  object-left d m e h = gives (Left columns) (object f v columns o) (ends-gives (Left columns) (Condition f v columns o (o .kind)) (object f v columns o) (object-ends .ends)) d m e h
+  object-left d m e h = gives (Left columns) (object f v columns o) (makes object-ends .made) d m e h
 
-  -- an object's rule does not say 11
-  not-11 : (x : Outcome (Unit {0}) Refusal Made) (l : ℕ) (st : Random) → run (object f v columns o) (values l st) ≡ x → (e : Draws) → placed (λ p. spentNumber) number l st x ≡ refused 11 e → ⊥
+  -- a number that an object's rule is refused by, and its condition; else it is 12
+  refused-by : (x : Outcome (Unit {0}) Refusal Made) (l : ℕ) (st : Random) → run (object f v columns o) (values l st) ≡ x → (k : ℕ) (e : Draws) → placed (λ p. spentNumber) number l st x ≡ refused k e
+      → (k ≡ 12) ⊎ ((r : Refusal) × (number r ≡ k) × Condition f v columns o (o .kind) r)
   unfolding placed
-  not-11 (ended m n) l st u e h = let z : _≡_ {A = ℕ} 0 11 = ap said h in omega arith
-  not-11 (Rule.refused r n) l st u e h = short r (ap said h) (refused-meets (object f v columns o) object-ends l st r n u)
+  refused-by (ended m n) l st u k e h = let z : _≡_ {A = ℕ} 0 1 = ap kind h in absurd (omega arith)
+  refused-by (Rule.refused r n) l st u k e h = inr (r, ap said h, refused-meets (object f v columns o) object-ends l st r n u)
+  refused-by (spent p n) l st u k e h = inl (sym (ap said h))
+
+  object-refused : (d : Draws) (k : ℕ) (e : Draws) → on (object f v columns o) d ≡ refused k e → (k ≡ 12) ⊎ ((r : Refusal) × (number r ≡ k) × Condition f v columns o (o .kind) r)
+  object-refused d k e h =
+      refused-by (run (object f v columns o) (values (d .left) (d .random))) (d .left) (d .random) refl k e (sym (play-run (λ p. spentNumber) number (object f v columns o) (d .left) (d .random)) ∙ h)
+
+  -- it is not refused by 11
+  pub object-not-11 : (d e : Draws) → on (object f v columns o) d ≡ refused 11 e → ⊥
+  object-not-11 d e h = ⊎-elim (λ (z : 11 ≡ 12). omega arith) (λ k. short (k .0) (k .1) (k .2)) (object-refused d 11 e h)
     where
       short : (r : Refusal) → number r ≡ 11 → Condition f v columns o (o .kind) r → ⊥
       short lateEnd e c = omega arith
       short noColumn e c = omega arith
       short offDeck e c = omega arith
       short tooShort e c = c
-  not-11 (spent p n) l st u e h = let z : _≡_ {A = ℕ} 12 11 = ap said h in omega arith
 
-  pub object-not-11 : (d e : Draws) → on (object f v columns o) d ≡ refused 11 e → ⊥
-  object-not-11 d e h =
-      not-11 (run (object f v columns o) (values (d .left) (d .random))) (d .left) (d .random) refl e (sym (play-run (λ p. spentNumber) number (object f v columns o) (d .left) (d .random)) ∙ h)
-
--- ---- a walk
-
--- a slider's end depends on the song alone
-late-same : (s : Song) (x y : Float) (d e : Density) (o : Object) (k : Kind) → Late (factsAt s x d o) o k → Late (factsAt s y e o) o k
-unfolding Late factsAt PathObject.endTime
-late-same s x y d e o Circle h = h
-late-same s x y d e o (Slider repeats distance node) h = h
-late-same s x y d e o (Spinner duration) h = h
-late-same s x y d e o (Hold duration) h = h
-
-abbrev which : Refusal → ℕ
-which lateEnd = 0
-which noColumn = 1
-which offDeck = 2
-which tooShort = 3
-
-differ : {q r : Refusal} {A : Type 0} → q ≡ r → (which q ≡ which r → ⊥) → A
-differ e n = absurd (n (ap which e))
-
-module _ (s : Song) (columns i : ℕ) (o : Object) (os : List Object) where
-  later : (r : AtObject) → InWalk s columns (suc i) os r → InWalk s columns i (o ∷ os) r
-  unfolding LateAt KindAt
-  later r h =
-      record {
-        late = λ e. let k = h .late e in (suc (k .0), k .1 ∙ next (k .0), k .2);
-        blocked = λ e. let k = h .blocked e in (k .0, (suc (k .1 .0), k .1 .1 ∙ next (k .1 .0), k .1 .2));
-        below = λ e. let k = h .below e in (k .0, (suc (k .1 .0), k .1 .1 ∙ next (k .1 .0), k .1 .2));
-      }
+  -- by 8 where a slider ends too late, and then without a draw
+  object-late : (d e : Draws) → on (object f v columns o) d ≡ refused 8 e → Late f o (o .kind)
+  object-late d e h = ⊎-elim (λ (z : 8 ≡ 12). absurd (omega arith)) (λ k. late (k .0) (k .1) (k .2)) (object-refused d 8 e h)
     where
-      next : (k : ℕ) → suc i + k ≡ i + suc k
-      next k = omega arith
+      late : (r : Refusal) → number r ≡ 8 → Condition f v columns o (o .kind) r → Late f o (o .kind)
+      late lateEnd e c = c
+      late noColumn e c = absurd (omega arith)
+      late offDeck e c = absurd (omega arith)
+      late tooShort e c = absurd c
 
-  module _ (difficulty : Float) (v : PrevValues) (d : Density) where
-    blocked-kind : (k : Kind) → Blocked v columns k → (columns ≡ 8) × NoCircle k
-    unfolding Blocked
-    blocked-kind Circle h = absurd h
-    blocked-kind (Slider repeats distance node) h = (h .0, tt)
-    blocked-kind (Spinner duration) h = (h .0, tt)
-    blocked-kind (Hold duration) h = (h .0, tt)
+  late-undrawn : (k : Kind) → Late f o k → (d e : Draws) → on (byKind f v columns o k) d ≡ refused 8 e → d ≡ e
+  unfolding Late byKind PathObject.new PathObject.generate play
+  late-undrawn Circle l d e h = absurd l
+  late-undrawn (Slider repeats distance node) l d e h =
+      let t : on (byKind f v columns o (Slider repeats distance node)) d ≡ refused 8 d = rw (lt-ltb PathObject.latest (PathObject.endTime f o (repeats + 1) distance) l) in
+      ap after (sym t ∙ h)
+  late-undrawn (Spinner duration) l d e h = absurd l
+  late-undrawn (Hold duration) l d e h = absurd l
 
-    below-kind : (k : Kind) → Below (factsAt s difficulty d o) v columns o k → (columns ≡ 8) × IsCircle k
-    unfolding Below
-    below-kind Circle h = (h .0, tt)
-    below-kind (Slider repeats distance node) h = absurd h
-    below-kind (Spinner duration) h = absurd h
-    below-kind (Hold duration) h = absurd h
-
-    here : (r : Refusal) → Condition (factsAt s difficulty d o) v columns o (o .kind) r → InWalk s columns i (o ∷ os) (at i r)
-    unfolding LateAt KindAt
-    here lateEnd h =
-        record {
-          late = λ e. (0, sym (add-zero i), late-same s difficulty _ d _ o (o .kind) h);
-          blocked = λ e. differ e (λ z. omega arith);
-          below = λ e. differ e (λ z. omega arith);
-        }
-    here noColumn h =
-        let k = blocked-kind (o .kind) h in
-        record { late = λ e. differ e (λ z. omega arith); blocked = λ e. (k .0, (0, sym (add-zero i), k .1)); below = λ e. differ e (λ z. omega arith) }
-    here offDeck h =
-        let k = below-kind (o .kind) h in
-        record { late = λ e. differ e (λ z. omega arith); blocked = λ e. differ e (λ z. omega arith); below = λ e. (k .0, (0, sym (add-zero i), k .1)) }
-    here tooShort h = absurd h
-
-  short-here : (j : ℕ) → InWalk s columns i (o ∷ os) (at j tooShort)
-  short-here j = record { late = λ e. differ e (λ z. omega arith); blocked = λ e. differ e (λ z. omega arith); below = λ e. differ e (λ z. omega arith) }
-
-module _ (s : Song) (difficulty : Float) (columns room : ℕ) (some : 1 ≤ columns) (deck : columns ≤ 9) where
-  walk-ends : (os : List Object) (i : ℕ) (w : Walk) → w .prev .mask < 2 ^ columns → w .prev .last < columns → Meets (InWalk s columns i os) (λ nss. Unit {0}) (walk s difficulty columns room i w os)
-  unfolding walk objectIn afterObject
-  walk-ends [] i w m l = giving tt
-  walk-ends (o ∷ os) i w m l =
-      let d = meets (o .kind) (o .start) (w .density) in
-      let f = factsAt s difficulty d o in
-      seq {P = Left columns}
-      (labelled (InWalk s columns i (o ∷ os)) (λ p. i) (at i)
-      (seq {P = Left columns} (less (object-ends f (w .prev) columns o some deck m l) (λ x h. h) (here s columns i o os difficulty (w .prev) d))
-      (λ made h. by (ltb room (8 + 17 * (w .notes + length (made .notes)))) _ _ (λ e. refusing (short-here s columns i o os i)) (λ e. giving h))))
-      (λ made h. seq (less (walk-ends os (suc i) (afterObject f o d made w) (h .1) (h .0)) (λ x u. u) (later s columns i o os)) (λ rest u. giving tt))
-
-pub convert-ends : (s : Song) (room : ℕ) → columnsOf s ≤ 9 → Meets (InWalk s (columnsOf s) 0 (s .objects)) (λ nss. Unit {0}) (convert s room)
-unfolding convert beginning
-convert-ends s room deck =
-    by (ltb room 8) _ _
-    (λ e. refusing (record { late = λ e. differ e (λ z. omega arith); blocked = λ e. differ e (λ z. omega arith); below = λ e. differ e (λ z. omega arith) }))
-    (λ e. walk-ends s _ (columnsOf s) room (some-columns s) deck (s .objects) 0 beginning (pow-pos (columnsOf s)) (some-columns s))
+  pub undrawn-8 : (d e : Draws) → on (object f v columns o) d ≡ refused 8 e → d ≡ e
+  unfolding object
+  undrawn-8 d e h = late-undrawn (o .kind) (object-late d e h) d e h

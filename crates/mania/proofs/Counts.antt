@@ -22,7 +22,6 @@ use Rattle.mania.specs.declared.PathObjectPatternGenerator.{PathObjectPa
 use Rattle.mania.specs.Steps.{double}
 use Rattle.mania.specs.Made.{Made, circle}
 use Rattle.mania.specs.Pattern.{Pattern, empty, put}
-use Rattle.mania.specs.PatternGenerator.{randomStart}
 use Rattle.mania.specs.HitObject
 use Rattle.mania.specs.EndTimeObject
 use Rattle.mania.specs.PathObject
@@ -200,7 +199,7 @@ module _ (g : PathObjectPatternGenerator) where
         (λ e. by (leb (g .length) 160) _ _ (λ e. stair-notes-few)
         (λ long. by (leb (g .length) 200 && lt (double 3 1) (g .difficulty)) _ _ (λ e. multiple-few)
         (λ e. by (leb 4000 (g .end - g .start)) _ _ (λ e. chance-few _)
-        (λ brief. by (ltb 400 (g .length) && ltb (g .spans) (g .columns - 1 - randomStart (g .columns))) _ _
+        (λ brief. by (ltb 400 (g .length) && ltb (g .spans) (PathObject.tileLimit (g .columns))) _ _
         (λ e. tiled-few (fits (positive (leb-false (g .length) 160 long))))
         (λ e. hold-and-normal-few (leb-false (g .length) 160 long) (leb-false 4000 (g .end - g .start) brief)))))))
       where

@@ -6,6 +6,7 @@ use native.Mathlib.Nat.{add-zero, zero-add}
 use native.Mathlib.Omega.{arith}
 use mathlib.Core.Bool.{Bool, true, false}
 use mathlib.Core.List.{List, [], _∷_, append-nil}
+use lib.Arith.{sub-sub-self}
 use lib.Dec.{ltb}
 use lib.Ieee.{Float}
 use lib.ListN.{length, take, length-append}
@@ -37,26 +38,26 @@ use Rattle.mania.proofs.Conditions.{object-left, object-not-11}
 use Rattle.mania.proofs.Demand.{some-columns}
 use Rattle.mania.specs.Laws.Walks.{before, walk-none, walk-refused, walk-full, walk-made}
 
-abbrev kind : {R A : Type 0} → Answer R A → ℕ
+abbrev pub kind : {R A : Type 0} → Answer R A → ℕ
 kind (found a e) = 0
 kind (refused x e) = 1
 
 -- ---- the walk
 
-abbrev stopAt : Answer Stop (List (List Note)) → Stop
+abbrev pub stopAt : Answer Stop (List (List Note)) → Stop
 stopAt (found a e) = stop 0 0
 stopAt (refused x e) = x
 
-abbrev left : {R A : Type 0} → Draws → Answer R A → Draws
+abbrev pub left : {R A : Type 0} → Draws → Answer R A → Draws
 left d (found a e) = e
 left d (refused x e) = e
 
-before-none : (a : Answer Stop (List (List Note))) → before [] a ≡ a
+pub before-none : (a : Answer Stop (List (List Note))) → before [] a ≡ a
 unfolding before
 before-none (found mss d) = refl
 before-none (refused r d) = refl
 
-before-refused : (nss : List (List Note)) (a : Answer Stop (List (List Note))) (r : Stop) (e : Draws) → before nss a ≡ refused r e → a ≡ refused r e
+pub before-refused : (nss : List (List Note)) (a : Answer Stop (List (List Note))) (r : Stop) (e : Draws) → before nss a ≡ refused r e → a ≡ refused r e
 unfolding before
 before-refused nss (found mss d) r e h = let z : _≡_ {A = ℕ} 0 1 = ap kind h in absurd (omega arith)
 before-refused nss (refused x d) r e h = h
@@ -73,12 +74,12 @@ length-one : (ns : List Note) → length (inWalkOrder (ns ∷ [])) ≡ length ns
 unfolding inWalkOrder
 length-one ns = ap length (append-nil ns)
 
-length-more : (ns : List Note) (nss : List (List Note)) → length (inWalkOrder (ns ∷ nss)) ≡ length ns + length (inWalkOrder nss)
+pub length-more : (ns : List Note) (nss : List (List Note)) → length (inWalkOrder (ns ∷ nss)) ≡ length ns + length (inWalkOrder nss)
 unfolding inWalkOrder
 length-more ns nss = length-append ns (inWalkOrder nss)
 
 -- what an object meets lies on the deck
-abbrev On : ℕ → Walk → Type 0
+abbrev pub On : ℕ → Walk → Type 0
 On columns w = (w .prev .mask < 2 ^ columns) × (w .prev .last < columns)
 
 module _ (s : Song) (difficulty : Float) (columns room : ℕ) (some : 1 ≤ columns) (deck : columns ≤ 9) where
@@ -189,7 +190,7 @@ module _ (s : Song) (deck : columnsOf s ≤ 9) (room a i n : ℕ) where
         made = λ wide w.
             subst (λ (k : ℕ). run (whole wide (take (suc k) (s .objects))) (values a st) ≡ ended (l .nss) n) k-is
             (found-run spentAt refusedAt (whole wide (take (suc (l .k)) (s .objects))) d (l .nss) e (l .made wide (none wide (length (inWalkOrder (l .nss))) w)) .0
-            ∙ ap (λ (j : ℕ). ended (l .nss) j) (back a n small));
+            ∙ ap (λ (j : ℕ). ended (l .nss) j) (sub-sub-self small));
         long = out (length (inWalkOrder (l .nss))) (l .long);
       }
     where
@@ -198,9 +199,6 @@ module _ (s : Song) (deck : columnsOf s ≤ 9) (room a i n : ℕ) where
 
       out : (k : ℕ) → room < 8 + 17 * (0 + k) → room < 8 + 17 * k
       out k h = omega arith
-
-      back : (a n : ℕ) → n ≤ a → a - (a - n) ≡ n
-      back a n h = omega arith
 
   by-room : (b : Bool) → ltb room 8 ≡ b → run (if b then refuse (at 0 tooShort) else whole room (s .objects)) (values a st) ≡ Rule.refused (at i tooShort) n → (room < 8) ⊎ TooLong s room a i n
   by-room true e u = inl (ltb-true room 8 e)

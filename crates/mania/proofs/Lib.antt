@@ -1,11 +1,13 @@
 -- Laws of the rules. Demand 3 of songs: `Allowances` on draws, `Demand` on deck and lanes, from those of each generator (`EndLanes`, `CircleLanes`,
--- `SliderLanes`). Refusals: `Conditions`, from what each generator is refused by (`CircleEnds`, `SliderEnds`); `Eleven`. `Singles`: the claims of
--- the single-object entry. `CircleDeck`, `SliderDeck`: what the next object meets. `Counts`: how many notes an object makes. `Back`: columns
--- and positions. `Order`: the chart's order. `Examples`: computed on the definition.
+-- `SliderLanes`). Refusals: `Conditions`, from what each generator is refused by (`CircleEnds`, `SliderEnds`); `Reach`: why 9 and 10 don't come out
+-- of a song, from what each generator leaves (`CircleReach`, `SliderReach`; `Follows`); `Eight`, `Eleven`. `Singles`: the claims of the single-object entry.
+-- `CircleDeck`, `SliderDeck`: what the next object meets. `Counts`: how many notes an object makes. `Ones`, `Frees`, `Masks`: the columns of a mask.
+-- `Back`: columns and positions. `Order`: the chart's order. `Examples`: computed on the definition.
 pub mod Makes
 pub mod Meets
 pub mod Masks
 pub mod Frees
+pub mod Ones
 pub mod Columns
 pub mod Back
 pub mod Bars
@@ -22,9 +24,14 @@ pub mod SliderDeck
 pub mod Searching
 pub mod NoteCounts
 pub mod CircleEnds
+pub mod CircleReach
 pub mod SliderEnds
+pub mod SliderReach
 pub mod Conditions
+pub mod Reach
+pub mod Follows
 pub mod Eleven
+pub mod Eight
 pub mod Singles
 pub mod Computing
 pub mod Examples

@@ -52,6 +52,16 @@ less-gives P Q f (drawUntil r p k) h = λ v l e. less-gives P Q f (k v) (h v l e
 pub less : {W R A : Type 0} {P Q : A → Type 0} {m : Rule W R A} → Makes P m → ((a : A) → P a → Q a) → Makes Q m
 less {P = P} {Q = Q} {m = m} h f = record { made = less-gives P Q f m (h .made) }
 
+-- two things said of it
+both-give : {W R A : Type 0} (P Q : A → Type 0) (m : Rule W R A) → Gives P m → Gives Q m → Gives (λ a. P a × Q a) m
+both-give P Q (give a) h k = (h, k)
+both-give P Q (refuse r) h k = tt
+both-give P Q (draw r f) h k = λ v l. both-give P Q (f v) (h v l) (k v l)
+both-give P Q (drawUntil r p f) h k = λ v l e. both-give P Q (f v) (h v l e) (k v l e)
+
+pub both : {W R A : Type 0} {P Q : A → Type 0} {m : Rule W R A} → Makes P m → Makes Q m → Makes (λ a. P a × Q a) m
+both {P = P} {Q = Q} {m = m} h k = record { made = both-give P Q m (h .made) (k .made) }
+
 pub label-gives : {W W' R S A : Type 0} (P : A → Type 0) (f : W → W') (g : R → S) (m : Rule W R A) → Gives P m → Gives P (label f g m)
 unfolding label
 label-gives P f g (give a) h = h

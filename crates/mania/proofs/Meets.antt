@@ -8,8 +8,9 @@ use Rattle.rules.specs.Rule.{if_then_else_, Rule, give, refuse, draw, drawUntil
 use Rattle.random.specs.Generator.{next, values}
 use Rattle.random.specs.Play.{value}
 use Rattle.random.specs.declared.Random.{Random}
-use Rattle.random.specs.Laws.Gives.{low-lt}
+use Rattle.random.specs.Laws.Gives.{Gives, low-lt}
 use Rattle.mania.specs.Pattern.{Pattern, put, add}
+use Rattle.mania.proofs.Makes.{Makes}
 
 -- P of each end, and Q of each refusal
 abbrev pub Ends : {W R A : Type 0} → (A → Type 0) → (R → Type 0) → Rule W R A → Type 0
@@ -63,6 +64,25 @@ more-ends P S Q T f g (drawUntil w test k) h = λ v l e. more-ends P S Q T f g (
 -- less said of its ends, and of its refusals
 pub less : {W R A : Type 0} {P S : A → Type 0} {Q T : R → Type 0} {m : Rule W R A} → Meets Q P m → ((a : A) → P a → S a) → ((r : R) → Q r → T r) → Meets T S m
 less {P = P} {S = S} {Q = Q} {T = T} {m = m} h f g = record { ends = more-ends P S Q T f g m (h .ends) }
+
+-- what is said of all that the rule can give
+with-gives : {W R A : Type 0} (P S : A → Type 0) (Q : R → Type 0) (m : Rule W R A) → Ends S Q m → Gives P m → Ends P Q m
+with-gives P S Q (give a) h g = g
+with-gives P S Q (refuse r) h g = h
+with-gives P S Q (draw w k) h g = λ v l. with-gives P S Q (k v) (h v l) (g v l)
+with-gives P S Q (drawUntil w test k) h g = λ v l e. with-gives P S Q (k v) (h v l e) (g v l e)
+
+pub both : {W R A : Type 0} {P S : A → Type 0} {Q : R → Type 0} {m : Rule W R A} → Meets Q S m → Makes P m → Meets Q P m
+both {P = P} {S = S} {Q = Q} {m = m} h g = record { ends = with-gives P S Q m (h .ends) (g .made) }
+
+ends-gives : {W R A : Type 0} (P : A → Type 0) (Q : R → Type 0) (m : Rule W R A) → Ends P Q m → Gives P m
+ends-gives P Q (give a) h = h
+ends-gives P Q (refuse r) h = tt
+ends-gives P Q (draw w k) h = λ v l. ends-gives P Q (k v) (h v l)
+ends-gives P Q (drawUntil w test k) h = λ v l e. ends-gives P Q (k v) (h v l e)
+
+pub makes : {W R A : Type 0} {P : A → Type 0} {Q : R → Type 0} {m : Rule W R A} → Meets Q P m → Makes P m
+makes {P = P} {Q = Q} {m = m} h = record { made = ends-gives P Q m (h .ends) }
 
 -- a value is below 2 ^ 31
 pub valued : {R : Type 0} {Q : R → Type 0} → Meets Q (λ v. v < 2 ^ 31) value

@@ -70,12 +70,24 @@ two : (b2 : Bool) → pick false false false false b2 ≤ 2
 two true = lit≤ tt
 two false = lit≤ tt
 
+some : (b6 b5 b4 b3 b2 : Bool) → 1 ≤ pick b6 b5 b4 b3 b2
+some true b5 b4 b3 b2 = lit≤ tt
+some false true b4 b3 b2 = lit≤ tt
+some false false true b3 b2 = lit≤ tt
+some false false false true b2 = lit≤ tt
+some false false false false true = lit≤ tt
+some false false false false false = lit≤ tt
+
 abbrev at : Float → ℕ → Bool
 at p v = le (sub binary64 (double 1 1) p) (unit v)
 
 pub any-count : {Q : Refusal → Type 0} (p2 p3 p4 p5 p6 : Float) → Meets Q (λ n. Unit {0}) (getRandomNoteCount p2 p3 p4 p5 p6)
 unfolding getRandomNoteCount
 any-count p2 p3 p4 p5 p6 = seq valued (λ v h. giving tt)
+
+pub at-least-1 : {Q : Refusal → Type 0} (p2 p3 p4 p5 p6 : Float) → Meets Q (λ n. 1 ≤ n) (getRandomNoteCount p2 p3 p4 p5 p6)
+unfolding getRandomNoteCount noteCount
+at-least-1 p2 p3 p4 p5 p6 = seq valued (λ v h. giving (some (at p6 v) (at p5 v) (at p4 v) (at p3 v) (at p2 v)))
 
 module _ {Q : Refusal → Type 0} (p2 p3 p4 p5 p6 : Float) (n5 : None p5) (n6 : None p6) where
   pub at-most-4 : Meets Q (λ n. n ≤ 4) (getRandomNoteCount p2 p3 p4 p5 p6)

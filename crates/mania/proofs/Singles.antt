@@ -5,6 +5,7 @@ use native.Mathlib.Nat.{lt-of-not-le}
 use native.Mathlib.Omega.{arith}
 use mathlib.Core.Bool.{Bool, true, false, not}
 use mathlib.Core.List.{List}
+use lib.Arith.{sub-sub-self}
 use lib.Dec.{eqb, ltb}
 use lib.ListN.{length}
 use borrow.Author.Tests.{ltb-true, ltb-false, eqb-true, eqb-false}
@@ -57,17 +58,17 @@ numberOf (refusal k s) = k
 abbrev firstFailed : Bool → Bool → Bool → Bool → ℕ
 firstFailed a b c d = if not a then 13 else if not b then 4 else if not c then 5 else if not d then 6 else 0
 
--- the number of a check, and 0 where all pass, is none of the rule's
-checks : (f : Facts) (v : PrevValues) (columns : ℕ) (o : Object) → entryRefusal f v columns o ≡ 12 → ⊥
+-- the number of a check, and 0 where all pass, is none of the rule's, 8 to 12
+pub checks : (f : Facts) (v : PrevValues) (columns : ℕ) (o : Object) → 8 ≤ entryRefusal f v columns o → entryRefusal f v columns o ≤ 12 → ⊥
 unfolding entryRefusal
-checks f v columns o e = go (patternFits v columns) (settingsFit f) (pointsFit f) (objectFits f v o) e
+checks f v columns o l h = go (patternFits v columns) (settingsFit f) (pointsFit f) (objectFits f v o) l h
   where
-    go : (a b c d : Bool) → firstFailed a b c d ≡ 12 → ⊥
-    go false b c d e = omega arith
-    go true false c d e = omega arith
-    go true true false d e = omega arith
-    go true true true false e = omega arith
-    go true true true true e = omega arith
+    go : (a b c d : Bool) → 8 ≤ firstFailed a b c d → firstFailed a b c d ≤ 12 → ⊥
+    go false b c d l h = omega arith
+    go true false c d l h = omega arith
+    go true true false d l h = omega arith
+    go true true true false l h = omega arith
+    go true true true true l h = omega arith
 
 entry-fits : (f : Facts) (v : PrevValues) (columns : ℕ) (o : Object) → entryRefusal f v columns o ≡ 0 → Fits v columns
 unfolding entryRefusal
@@ -92,11 +93,8 @@ module _ (f : Facts) (v : PrevValues) (columns : ℕ) (o : Object) (r : Random) 
   abbrev at : ℕ → Draws
   at n = record { random = steps n r; left = a - n }
 
-  back : (a n : ℕ) → n ≤ a → a - (a - n) ≡ n
-  back a n h = omega arith
-
   back-to : (m : Made) (n : ℕ) → n ≤ a → on rule d ≡ found m (at n) → run rule (values a r) ≡ ended m n
-  back-to m n l h = found-run (λ p. spentNumber) number rule d m (at n) h .0 ∙ ap (λ (k : ℕ). ended m k) (back a n l)
+  back-to m n l h = found-run (λ p. spentNumber) number rule d m (at n) h .0 ∙ ap (λ (k : ℕ). ended m k) (sub-sub-self l)
 
   -- after the object's rule
   then-room : (m : Made) (e : Draws) → on rule d ≡ found m e → on roomy d ≡ on (if ltb (length buffer) (17 * length (m .notes)) then refuse tooShort else give m) e
@@ -244,7 +242,7 @@ module _ (f : Facts) (v : PrevValues) (columns : ℕ) (o : Object) (r : Random) 
   whole-by : (b : Bool) (a : ℕ) → Spent (by b a) → drawn-by b a ≡ a
   unfolding refusing
   whole-by true a h = let s = spent-of (run entered (values a r)) h in lawful entered r .whole a (s .0) (taken (run entered (values a r))) (s .1)
-  whole-by false a h = absurd (checks f v columns o (ap numberOf h))
+  whole-by false a h = let z : entryRefusal f v columns o ≡ 12 = ap numberOf h in absurd (checks f v columns o (omega arith) (omega arith))
 
   below-by : (b : Bool) (a c : ℕ) → (Spent (by b a) → ⊥) → c < drawn-by b a → by b c ≡ record { answer = refusal spentNumber r; notes = buffer }
   unfolding ending refusing

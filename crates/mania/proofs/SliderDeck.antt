@@ -1,4 +1,6 @@
--- The mask and the last column that a slider leaves lie on the deck. Assumes nothing.
+-- The mask and the last column that a slider leaves lie on the deck, and that column is one of the mask's. Assumes nothing.
+use mathlib.Core.Path.{refl}
+use mathlib.Core.Logic.{inl, inr}
 use Prim.Native.Nat.{ℕ, zero, suc, _-_, _^_, _<_}
 use mathlib.Core.Bool.{Bool, true, false, _&&_}
 use mathlib.Core.List.{List, [], _∷_, _++_, map}
@@ -13,23 +15,25 @@ use Rattle.mania.specs.declared.PathObjectPatternGenerator.{PathObjectPa
 use Rattle.mania.specs.Steps.{double}
 use Rattle.mania.specs.Made.{Made}
 use Rattle.mania.specs.Pattern.{Pattern, empty, put}
-use Rattle.mania.specs.PatternGenerator.{randomStart}
 use Rattle.mania.specs.PathObject
 use Rattle.mania.specs.Demand.{Each}
-use Rattle.mania.proofs.Makes.{Makes, any, giving, refusing, seq, by, added, each-snoc}
+use Rattle.mania.proofs.Masks.{or-own}
+use Rattle.mania.proofs.Ones.{Own, Owned}
+use Rattle.mania.proofs.Makes.{Makes, any, giving, refusing, seq, less, by, added, each-snoc}
 
 record Deck (columns : ℕ) (p : Pattern SliderNote) : Type 0 where
   last : p .last < columns
   mask : p .mask < 2 ^ columns
   notes : Each (λ b. b .column < columns) (p .notes)
+  own : Own (p .mask) (p .last)
 
 put-deck : (columns : ℕ) (b : SliderNote) (p : Pattern SliderNote) → b .column < columns → Deck columns p → Deck columns (put b (b .column) p)
 unfolding put
-put-deck columns b p l h = record { last = l; mask = or-lt columns (p .mask) (2 ^ b .column) (h .mask) (pow-lt l); notes = each-snoc _ (p .notes) b (h .notes) l }
+put-deck columns b p l h = record { last = l; mask = or-lt columns (p .mask) (2 ^ b .column) (h .mask) (pow-lt l); notes = each-snoc _ (p .notes) b (h .notes) l; own = inr (or-own (p .mask) (b .column)) }
 
 empty-deck : (columns : ℕ) → 0 < columns → Deck columns empty
 unfolding empty
-empty-deck columns some = record { last = some; mask = pow-pos columns; notes = tt }
+empty-deck columns some = record { last = some; mask = pow-pos columns; notes = tt; own = inl (refl, refl) }
 
 -- the notes that end at the slider's end
 ending-deck : (columns end : ℕ) (bs : List SliderNote) (p : Pattern SliderNote) → Each (λ b. b .column < columns) bs → Deck columns p → Deck columns (PathObject.ending end bs p)
@@ -124,7 +128,7 @@ module _ (g : PathObjectPatternGenerator) (some : 0 < g .columns) where
       (λ e. by (leb (g .length) 160) _ _ (λ e. stair-notes)
       (λ e. by (leb (g .length) 200 && lt (double 3 1) (g .difficulty)) _ _ (λ e. multiple)
       (λ e. by (leb 4000 (g .end - g .start)) _ _ (λ e. n-notes _)
-      (λ e. by (ltb 400 (g .length) && ltb (g .spans) (T - 1 - randomStart T)) _ _ (λ e. tiled) (λ e. hold-and-normal))))))
+      (λ e. by (ltb 400 (g .length) && ltb (g .spans) (PathObject.tileLimit T)) _ _ (λ e. tiled) (λ e. hold-and-normal))))))
 
   span : Makes (Deck T) (PathObject.generateSpan g)
   unfolding PathObject.generateSpan
@@ -138,7 +142,7 @@ module _ (g : PathObjectPatternGenerator) (some : 0 < g .columns) where
   abbrev Left : Made → Type 0
   Left m = (m .last < T) × (m .mask < 2 ^ T)
 
-  split-deck : (p : Pattern SliderNote) → Deck T p → Left (PathObject.split g p)
+  split-deck : (p : Pattern SliderNote) → Deck T p → Owned T (PathObject.split g p)
   unfolding PathObject.split
   split-deck p h = go (eqb (length (p .notes)) 1)
     where
@@ -153,10 +157,13 @@ module _ (g : PathObjectPatternGenerator) (some : 0 < g .columns) where
           let q = PathObject.ending (g .end) (p .notes) empty in
           record { notes = map PathObject.noteOf (PathObject.others (g .end) (p .notes) ++ q .notes); mask = q .mask; last = q .last; stair = g .stair }
 
-      go : (t : Bool) → Left (if t then alone else parted)
-      go true = (h .last, h .mask)
-      go false = (q .last, q .mask)
+      go : (t : Bool) → Owned T (if t then alone else parted)
+      go true = record { mask = h .mask; last = h .last; own = h .own }
+      go false = record { mask = q .mask; last = q .last; own = q .own }
+
+  pub slider-owns : Makes (Owned T) (PathObject.generate g)
+  unfolding PathObject.generate
+  slider-owns = by (ltb PathObject.latest (g .end)) _ _ (λ e. refusing) (λ e. seq core (λ p h. giving (split-deck p h)))
 
   pub slider-makes : Makes Left (PathObject.generate g)
-  unfolding PathObject.generate
-  slider-makes = by (ltb PathObject.latest (g .end)) _ _ (λ e. refusing) (λ e. seq core (λ p h. giving (split-deck p h)))
+  slider-makes = less slider-owns (λ m h. (h .last, h .mask))

@@ -252,8 +252,8 @@ module _ (Q : Refusal → Type 0) (g : PathObjectPatternGenerator) (some : 2 ≤
       (λ d i. seq {P = λ q. q .mask ≡ bitOr (p .mask) (2 ^ d)} (bar d time end p (i .1 .1) refl)
       (λ q e. tiles end n (time + g .length) d q (i .1) (subst (λ (x : ℕ). n ≤ frees x low (T - low)) (sym e) (omega (arith, frees-put (p .mask) d low (T - low))))))
 
-  tiled : g .spans < T - 1 - low → Meets Q Any (PathObject.generateTiledHoldNotes g)
-  unfolding PathObject.generateTiledHoldNotes empty
+  tiled : g .spans < PathObject.tileLimit T → Meets Q Any (PathObject.generateTiledHoldNotes g)
+  unfolding PathObject.generateTiledHoldNotes PathObject.tileLimit empty
   tiled l = seq (head (g .flags)) (λ c h. tiles _ _ _ c empty h (omega (arith, all-free low (T - low))))
 
   -- ---- a hold with circles
@@ -281,7 +281,7 @@ module _ (Q : Refusal → Type 0) (g : PathObjectPatternGenerator) (some : 2 ≤
   unfolding PathObject.oneOrTwo
   one-or-two p2 = at-most-2 _ _ _ _ _ none-zero none-zero none-zero none-zero
 
-  beside-count : Meets Q (λ n. n ≤ 2) (PathObject.besideCount g)
+  pub beside-count : Meets Q (λ n. n ≤ 2) (PathObject.besideCount g)
   unfolding PathObject.besideCount
   beside-count =
       by (lt (double 65 10) (g .difficulty)) _ _ (λ e. one-or-two _)
@@ -309,7 +309,7 @@ module _ (Q : Refusal → Type 0) (g : PathObjectPatternGenerator) (some : 2 ≤
       (λ e. by (leb (g .length) 160) _ _ (λ e. stair-notes)
       (λ e. by (leb (g .length) 200 && lt (double 3 1) (g .difficulty)) _ _ (λ e. multiple)
       (λ e. by (leb 4000 (g .end - g .start)) _ _ (λ e. n-notes _ long-rare)
-      (λ e. by (ltb 400 (g .length) && ltb (g .spans) (T - 1 - low)) _ _ (λ e. tiled (ltb-true (g .spans) (T - 1 - low) (and-r (ltb 400 (g .length)) _ e))) (λ e. hold-and-normal))))))
+      (λ e. by (ltb 400 (g .length) && ltb (g .spans) (PathObject.tileLimit T)) _ _ (λ e. tiled (ltb-true (g .spans) _ (and-r (ltb 400 (g .length)) _ e))) (λ e. hold-and-normal))))))
     where
       one : (b : Bool) → eqb T 8 ≡ b → 1 + low ≤ T - low
       one true e = let z = eqb-true T 8 e in omega (arith, start-of T .0 z)

@@ -387,7 +387,7 @@ module _ (B : SliderNote → Type 0) where
         (λ e. by (leb L 160) _ _ (λ e. stair-notes-two l (s l))
         (λ e. by (leb L 200 && lt (double 3 1) (g .difficulty)) _ _ (λ e. multiple-two l (s l))
         (λ e. by (leb 4000 (g .end - g .start)) _ _ (λ e. n-notes-two _)
-        (λ e. by (ltb 400 L && ltb (g .spans) (T - 1 - randomStart T)) _ _ (λ e. less (tiled-good (fits l)) (λ p h. h .two)) (λ e. hold-and-normal-two l (s l)))))))
+        (λ e. by (ltb 400 L && ltb (g .spans) (PathObject.tileLimit T)) _ _ (λ e. less (tiled-good (fits l)) (λ p h. h .two)) (λ e. hold-and-normal-two l (s l)))))))
 
     span-two : ((0 < L) → Small 2 (g .start)) → Makes Two (PathObject.generateSpan g)
     unfolding PathObject.generateSpan

@@ -17,6 +17,7 @@ pub mod Chart
 pub mod Walked
 pub mod Refusals
 pub mod Single
+pub mod Reached
 pub mod Job
 pub mod Demand
 pub mod SingleClaims

@@ -281,6 +281,10 @@ generateHoldAndNormalNotes g = do
 
 -- ---- the branches in their order
 
+-- fewer spans than this are tiled: at most five with 8 columns
+unfoldable pub tileLimit : ℕ → ℕ
+tileLimit columns = columns - 1 - randomStart columns
+
 -- `generate_` with more than one span
 unfoldable pub generateSpans : PathObjectPatternGenerator → ObjectRule (Pattern SliderNote)
 generateSpans g =
@@ -289,7 +293,7 @@ generateSpans g =
     else if leb (g .length) 160 then generateStair g
     else if leb (g .length) 200 && lt (double 3 1) (g .difficulty) then generateRandomMultipleNotes g
     else if leb 4000 (g .end - g .start) then generateNRandomNotes g (percent 23 0 0)
-    else if ltb 400 (g .length) && ltb (g .spans) (g .columns - 1 - randomStart (g .columns)) then generateTiledHoldNotes g
+    else if ltb 400 (g .length) && ltb (g .spans) (tileLimit (g .columns)) then generateTiledHoldNotes g
     else generateHoldAndNormalNotes g
 
 -- the chances of one span by the conversion difficulty, smaller with `LOW_PROBABILITY`

@@ -51,32 +51,22 @@ Below f v columns o (Slider repeats distance node) = ⊥
 Below f v columns o (Spinner duration) = ⊥
 Below f v columns o (Hold duration) = ⊥
 
--- the kind of the object at an index
-unfoldable pub KindAt : (Kind → Type 0) → List Object → ℕ → Type 0
-KindAt P [] i = ⊥
-KindAt P (o ∷ os) zero = P (o .kind)
-KindAt P (o ∷ os) (suc i) = KindAt P os i
+-- 8: the buffer holds a header and the notes of the objects before index i, which took n draws, and the slider at index i ends too late.
+pub record TooLate (s : Song) (room allowance i n : ℕ) : Type 0 where
+  pub header : 8 ≤ room
+  pub nss : List (List Note)
+  pub made : run (walk s (conversionDifficulty (s .settings) (s .breaks) (s .objects)) (columnsOf s) room 0 beginning (take i (s .objects)))
+      (values allowance (seeded (seed (s .settings))))
+      ≡ ended nss n
+  pub late : LateAt s (s .objects) i
 
-abbrev pub IsCircle : Kind → Type 0
-IsCircle Circle = Unit {0}
-IsCircle (Slider repeats distance node) = ⊥
-IsCircle (Spinner duration) = ⊥
-IsCircle (Hold duration) = ⊥
-
-abbrev pub NoCircle : Kind → Type 0
-NoCircle Circle = ⊥
-NoCircle (Slider repeats distance node) = Unit {0}
-NoCircle (Spinner duration) = Unit {0}
-NoCircle (Hold duration) = Unit {0}
-
--- What is true of a walk over objects from index i on, with so many columns, that is refused by r.
-pub record InWalk (s : Song) (columns i : ℕ) (os : List Object) (r : AtObject) : Type 0 where
-  -- the object at index k of these: by 8, a slider that ends too late
+-- A refusal r of a walk over `os` whose first object has index i, if its previous patterns are `Reached`.
+pub record InWalk (s : Song) (i : ℕ) (os : List Object) (r : AtObject) : Type 0 where
+  -- 8: the k-th of them is a slider that ends too late
   pub late : r .refusal ≡ lateEnd → (k : ℕ) × (r .object ≡ i + k) × LateAt s os k
-  -- by 9: 8 columns, and no circle
-  pub blocked : r .refusal ≡ noColumn → (columns ≡ 8) × ((k : ℕ) × (r .object ≡ i + k) × KindAt NoCircle os k)
-  -- by 10: 8 columns, and a circle
-  pub below : r .refusal ≡ offDeck → (columns ≡ 8) × ((k : ℕ) × (r .object ≡ i + k) × KindAt IsCircle os k)
+  -- never 9 or 10
+  pub found : r .refusal ≡ noColumn → ⊥
+  pub on : r .refusal ≡ offDeck → ⊥
 
 -- 11: with room enough, the objects up to and with the one at index i make their notes, after the same draws, and a chart of them is longer than
 -- the room that there is

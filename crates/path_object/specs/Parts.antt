@@ -7,8 +7,7 @@ use Rattle.rules.specs.Refusal.{ObjectRule}
 use Rattle.mania.specs.declared.SliderNote.{SliderNote}
 use Rattle.mania.specs.declared.PathObjectPatternGenerator.{PathObjectPatternGenerator}
 use Rattle.mania.specs.Pattern.{Pattern}
-use Rattle.mania.specs.PatternGenerator.{randomStart}
-use Rattle.mania.specs.PathObject.{percent, generateNRandomNotes, generateTiledHoldNotes, generateHoldAndNormalNotes}
+use Rattle.mania.specs.PathObject.{percent, tileLimit, generateNRandomNotes, generateTiledHoldNotes, generateHoldAndNormalNotes}
 
 -- what a generator is given: a deck, spans that end by the slider's end, a start below 2 ^ 25, and a buffer of at least 2,050 words
 pub record Ready (g : PathObjectPatternGenerator) (words : ℕ) : Type 0 where
@@ -24,5 +23,5 @@ pub record Ready (g : PathObjectPatternGenerator) (words : ℕ) : Type 0 where
 unfoldable pub longSpans : PathObjectPatternGenerator → ObjectRule (Pattern SliderNote)
 longSpans g =
     if leb 4000 (g .end - g .start) then generateNRandomNotes g (percent 23 0 0)
-    else if ltb 400 (g .length) && ltb (g .spans) (g .columns - 1 - randomStart (g .columns)) then generateTiledHoldNotes g
+    else if ltb 400 (g .length) && ltb (g .spans) (tileLimit (g .columns)) then generateTiledHoldNotes g
     else generateHoldAndNormalNotes g

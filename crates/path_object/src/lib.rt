@@ -8,7 +8,6 @@ ghost use lib.Count.{ones};
 ghost use lib.ListN.{length};
 ghost use Rattle.rules.specs.Rule.{if_then_else_};
 ghost use Rattle.random.specs.Play.{on};
-ghost use Rattle.mania.specs.PatternGenerator.{randomStart};
 ghost use Rattle.mania.specs.PathObject as Path;
 ghost use Rattle.pattern.specs.Answers.{Generates};
 ghost use Rattle.slider_notes.specs.Words.{noteOfWord};
@@ -40,7 +39,7 @@ fn lasting(start: u32, end: u32) -> u32
 // Fewer spans than this can be tiled.
 fn tile_limit(columns: u8) -> u32
     requires { ⌜ 2 ≤ columns ⌝ }
-    ensures { λ r. ⌜ r ≡ columns - 1 - randomStart columns ⌝ }
+    ensures { λ r. ⌜ r ≡ Path.tileLimit columns ⌝ }
 {
     let start = pattern::random_start(columns);
     (columns - 1 - start) as u32

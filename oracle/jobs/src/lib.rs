@@ -2,6 +2,7 @@
 
 mod charts;
 mod damage;
+mod eight;
 mod lent;
 mod records;
 mod rng;
@@ -10,6 +11,7 @@ mod song;
 
 pub use charts::{chart, damaged_chart};
 pub use damage::damaged;
+pub use eight::song_of_8;
 pub use lent::{Need, lent};
 pub use records::{Bound, bound, record, song};
 pub use rng::Rng;

@@ -7,7 +7,7 @@ use crate::{
     song::{Object, Song},
 };
 
-const LAST_TIME: f64 = 16_777_215.0;
+pub(crate) const LAST_TIME: f64 = 16_777_215.0;
 
 /// Gaps around each bound of a circle's rules.
 pub(crate) const GAPS: &[f64] = &[
@@ -89,7 +89,7 @@ pub fn record(rng: &mut Rng) -> Vec<u8> {
     song(rng).bytes()
 }
 
-fn setting(rng: &mut Rng) -> f32 {
+pub(crate) fn setting(rng: &mut Rng) -> f32 {
     match rng.below(10) {
         0 => 0.0,
         1 => 10.0,
@@ -447,7 +447,7 @@ fn fill(rng: &mut Rng, song: &mut Song, count: usize) {
 }
 
 /// Sets breaks and the last start so that the conversion difficulty comes near a wanted one.
-fn pace(rng: &mut Rng, song: &mut Song) {
+pub(crate) fn pace(rng: &mut Rng, song: &mut Song) {
     let count = song.objects.len();
 
     if count < 2 || rng.percent(15) {

@@ -192,6 +192,9 @@ fn walk(song: &Song, columns: i32, room: usize, draws: &mut Draws) -> Result<Vec
             previous,
             reverse_stair,
         };
+        if columns == 8 {
+            hit(B::previous_8(previous));
+        }
         let made = make(&ask, draws).map_err(stop)?;
 
         (time, x, y) = (start, object.x, object.y);

@@ -3,6 +3,8 @@
 
 use std::cell::{Cell, RefCell};
 
+use crate::pattern::Previous;
+
 macro_rules! branches {
     ($($name:ident)*) => {
         /// A row of the table.
@@ -119,6 +121,15 @@ branches! {
     job_already_in_order
     job_put_in_order
     job_chart
+    // What a job's object meets with 8 columns, by the columns of the previous pattern.
+    previous_8_none
+    previous_8_one
+    previous_8_two
+    previous_8_three
+    previous_8_four
+    previous_8_five
+    previous_8_more
+    previous_8_column_0_alone
     single_columns
     single_mask_beyond
     single_last_of_empty
@@ -372,6 +383,20 @@ branches! {
 }
 
 impl B {
+    /// The row of a previous pattern that a job's object meets with 8 columns.
+    pub(crate) const fn previous_8(previous: Previous) -> Self {
+        match (previous.mask, previous.count()) {
+            (1, _) => Self::previous_8_column_0_alone,
+            (_, 0) => Self::previous_8_none,
+            (_, 1) => Self::previous_8_one,
+            (_, 2) => Self::previous_8_two,
+            (_, 3) => Self::previous_8_three,
+            (_, 4) => Self::previous_8_four,
+            (_, 5) => Self::previous_8_five,
+            _ => Self::previous_8_more,
+        }
+    }
+
     /// A job's refusals, by number less one.
     pub(crate) const JOB: [Self; 13] = [
         Self::job_refused_1,
@@ -427,6 +452,14 @@ pub const NEVER: &[(&str, &str)] = &[
     (
         "search_beside_none",
         "a row has at most two circles, and fewer than columns",
+    ),
+    (
+        "previous_8_more",
+        "a song reaches at most five columns (change request 9)",
+    ),
+    (
+        "previous_8_column_0_alone",
+        "a song reaches no such pattern (change request 9)",
     ),
     (
         "job_refused_9",

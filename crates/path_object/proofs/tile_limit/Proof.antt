@@ -2,6 +2,7 @@
 use native.Mathlib.Omega.{arith}
 use Rattle.slider_notes.proofs.Decks.{start-two}
 use borrow.Author.Needs.{needs}
+use Rattle.mania.specs.PathObject.{tileLimit}
 use Rattle.path_object.proofs.tile_limit.Statement.{statement}
 use Rattle.path_object.proofs.tile_limit.Tie as tie
 
@@ -20,6 +21,7 @@ cast-result : tie.Need-cast-result
 cast-result c = search needs
 
 returns : tie.Need-returns
+unfolding tileLimit
 returns c = search needs
 
 pub tile-limit-spec : {M : Type 1} → statement M
