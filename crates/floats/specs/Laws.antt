@@ -8,3 +8,5 @@ pub mod Spans
 pub mod Order
 pub mod Integers
 pub mod Times
+pub mod Roots
+pub mod Squares

@@ -18,7 +18,7 @@ use model::Object;
 use pattern::Number;
 use random::Draws;
 
-// Whether an object is under 20 from the one before.
+// Whether an object is under 20 from the one before. Of the sums whose nearest root is 20 the smallest is 400 − 2^−15.
 fn near(v: PrevValues, o: Object) -> bool
     ensures { λ r. ⌜ r ≡ Rule.near v o ⌝ }
 {
@@ -26,7 +26,7 @@ fn near(v: PrevValues, o: Object) -> bool
     let there = v.position;
     let dx = here.x - there.x;
     let dy = here.y - there.y;
-    dx * dx + dy * dy < 400.0
+    dx * dx + dy * dy < 399.999969482421875
 }
 
 fn stair_bit(s: Stair) -> u16

@@ -12,6 +12,7 @@ use Rattle.rules.specs.Rule.{give, _>>=_, if_then_else_}
 use Rattle.rules.specs.Refusal.{ObjectRule}
 use Rattle.random.specs.Generator.{unit}
 use Rattle.random.specs.Play.{value}
+use Rattle.floats.specs.Root.{root}
 use Rattle.mania.specs.declared.Facts.{Facts}
 use Rattle.mania.specs.declared.PrevValues.{PrevValues}
 use Rattle.model.specs.declared.Object.{Object}
@@ -32,12 +33,12 @@ use Rattle.mania.specs.PatternGenerator.{randomStart, getColumn, getRand
 
 -- ---- the convert type
 
--- separation under 20: dx·dx + dy·dy, in f32, under 400
+-- separation under 20: the nearest root of dx·dx + dy·dy, all in f32
 unfoldable pub near : PrevValues → Object → Bool
 near v o =
     let dx = Ieee.sub binary32 (o .position .x) (v .position .x) in
     let dy = Ieee.sub binary32 (o .position .y) (v .position .y) in
-    lt (Ieee.add binary32 (Ieee.mul binary32 dx dx) (Ieee.mul binary32 dy dy)) (single 400 1)
+    lt (root binary32 (Ieee.add binary32 (Ieee.mul binary32 dx dx) (Ieee.mul binary32 dy dy))) (single 20 1)
 
 -- the bits by the time and the separation since the object before, the density and the kiai
 unfoldable pub typeByTime : Facts → PrevValues → Object → ℕ

@@ -143,54 +143,100 @@ pub(crate) fn sound(rng: &mut Rng) -> u32 {
     }
 }
 
-/// A position, often near the one before.
-pub(crate) fn position(rng: &mut Rng, near: u64, columns: i64, before: (f32, f32)) -> (f32, f32) {
-    let place = if rng.percent(near) {
-        // Around a separation of 20.
-        let (dx, dy) = rng.pick(&[
-            (0.0, 0.0),
-            (5.0, -5.0),
-            (12.0, 15.999),
-            (12.0, 16.0),
-            (-12.0, 16.001),
-            (19.999, 0.0),
-            (0.0, -20.0),
-            (14.142_135, 14.142_135),
-            (14.142_136, -14.142_136),
-        ]);
-        (before.0 + dx, before.1 + dy)
-    } else {
-        match rng.below(8) {
-            // At the edge of a column, or a float beside it.
-            0 | 1 => {
-                let edge = 512.0 * rng.between(1, columns) as f32 / columns as f32;
-                let x = rng.pick(&[edge, edge.next_up(), edge.next_down()]);
-                (x, rng.uniform(0.0, 384.0) as f32)
-            }
-            2 => (
-                rng.uniform(-512.0, 0.0) as f32,
-                rng.uniform(-512.0, 1024.0) as f32,
-            ),
-            3 => (
-                rng.uniform(512.0, 1024.0) as f32,
-                rng.uniform(0.0, 384.0) as f32,
-            ),
-            4 => rng.pick(&[
-                (-512.0, -512.0),
-                (1024.0, 1024.0),
-                (0.0, 0.0),
-                (512.0, 384.0),
-                (-1e-40, 1e-40),
-                (256.0, 192.0),
-                (255.0, 200.0),
-            ]),
-            _ => (rng.between(0, 512) as f32, rng.between(0, 384) as f32),
-        }
-    };
-    // Adding 0 turns a negative zero into zero.
+/// The step from one f32 to the next around 400.
+pub(crate) const STEP: f32 = 1.0 / 32_768.0;
+
+/// The sum of the squares of a separation, as document 01 has it.
+pub(crate) fn squares(here: (f32, f32), there: (f32, f32)) -> f32 {
+    let (dx, dy) = (here.0 - there.0, here.1 - there.1);
+
+    dx * dx + dy * dy
+}
+
+/// Sums of squares around 400, in steps. One step below counts as a separation of 20, two steps as less (document 02).
+const STEPS: &[f32] = &[
+    -4.0, -3.0, -2.0, -2.0, -2.0, -1.0, -1.0, -1.0, 0.0, 0.0, 1.0, 2.0, 3.0, 4.0,
+];
+
+/// A place whose separation from the one before has one of these sums; none if 64 tries do not find it.
+fn at_ruler(rng: &mut Rng, before: (f32, f32)) -> Option<(f32, f32)> {
+    let sum = 400.0 + STEP * rng.pick(STEPS);
+
+    (0..64).find_map(|_| {
+        let x = before.0 + rng.uniform(-20.0, 20.0) as f32;
+        let dx = f64::from(x - before.0);
+        let dy = (f64::from(sum) - dx * dx).max(0.0).sqrt() as f32;
+        let y = before.1 + rng.pick(&[dy, -dy]);
+        let beside = [y, y.next_down(), y.next_up()];
+
+        beside
+            .map(|y| fit((x, y)))
+            .into_iter()
+            .find(|&place| squares(place, before) == sum)
+    })
+}
+
+/// The nearest position that a record can hold. Adding 0 turns a negative zero into zero.
+fn fit(place: (f32, f32)) -> (f32, f32) {
     let fit = |v: f32| v.clamp(-512.0, 1024.0) + 0.0;
 
     (fit(place.0), fit(place.1))
+}
+
+/// A position, often near the one before.
+pub(crate) fn position(rng: &mut Rng, near: u64, columns: i64, before: (f32, f32)) -> (f32, f32) {
+    if !rng.percent(near) {
+        return anywhere(rng, columns);
+    }
+    if rng.percent(50)
+        && let Some(place) = at_ruler(rng, before)
+    {
+        return place;
+    }
+    // Around a separation of 20.
+    let (dx, dy) = rng.pick(&[
+        (0.0, 0.0),
+        (5.0, -5.0),
+        (12.0, 15.999),
+        (12.0, 16.0),
+        (-12.0, 16.001),
+        (19.999, 0.0),
+        (0.0, -20.0),
+        (14.142_135, 14.142_135),
+        (14.142_136, -14.142_136),
+    ]);
+
+    fit((before.0 + dx, before.1 + dy))
+}
+
+/// A position that has nothing to do with the one before.
+fn anywhere(rng: &mut Rng, columns: i64) -> (f32, f32) {
+    fit(match rng.below(8) {
+        // At the edge of a column, or a float beside it.
+        0 | 1 => {
+            let edge = 512.0 * rng.between(1, columns) as f32 / columns as f32;
+            let x = rng.pick(&[edge, edge.next_up(), edge.next_down()]);
+            (x, rng.uniform(0.0, 384.0) as f32)
+        }
+        2 => (
+            rng.uniform(-512.0, 0.0) as f32,
+            rng.uniform(-512.0, 1024.0) as f32,
+        ),
+        3 => (
+            rng.uniform(512.0, 1024.0) as f32,
+            rng.uniform(0.0, 384.0) as f32,
+        ),
+        4 => rng.pick(&[
+            (-512.0, -512.0),
+            (1024.0, 1024.0),
+            (0.0, 0.0),
+            (512.0, 384.0),
+            (-1e-40, 1e-40),
+            (256.0, 192.0),
+            (255.0, 200.0),
+        ]),
+        _ => (rng.between(0, 512) as f32, rng.between(0, 384) as f32),
+    })
 }
 
 pub(crate) fn repeats(rng: &mut Rng) -> u32 {

@@ -2,6 +2,7 @@ use entry::{JobEnd, SingleEnd, State};
 
 use crate::{
     Name, Need, Rng, Song, chart, damaged, damaged_chart, damaged_single, lent, pack, record,
+    records::{STEP, squares},
     single, song, state_giving,
 };
 
@@ -77,6 +78,35 @@ fn songs_are_not_refused_by_their_fields() {
             assert_eq!(number, 8);
         }
     }
+}
+
+/// How often a sum of squares is so many steps above 400, from four below to four above.
+fn count_steps(counts: &mut [u32; 9], here: (f32, f32), there: (f32, f32)) {
+    let steps = f64::from(squares(here, there) - 400.0) / f64::from(STEP);
+    if steps.abs() <= 4.0 {
+        counts[(steps + 4.0) as usize] += 1;
+    }
+}
+
+#[test]
+fn separations_lie_around_20_often() {
+    let mut rng = Rng::new(17);
+    let (mut in_songs, mut in_singles) = ([0; 9], [0; 9]);
+
+    for _ in 0..1000 {
+        for pair in song(&mut rng).objects.windows(2) {
+            count_steps(
+                &mut in_songs,
+                (pair[1].x, pair[1].y),
+                (pair[0].x, pair[0].y),
+            );
+        }
+        let ask = single(&mut rng).0;
+        count_steps(&mut in_singles, (ask.x, ask.y), (ask.prev_x, ask.prev_y));
+    }
+
+    assert!(in_songs.iter().all(|&count| count > 100), "{in_songs:?}");
+    assert!(in_singles.iter().all(|&count| count > 5), "{in_singles:?}");
 }
 
 #[test]

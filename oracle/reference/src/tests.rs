@@ -260,15 +260,17 @@ fn charttext() {
 fn separation() {
     let under = |dx, dy| (Pos { x: dx, y: dy } - Pos { x: 0.0, y: 0.0 }).length() < 20.0;
     assert!(!under(12.0, 16.0));
-    // The squares' sum is the float just below 400, whose root rounds to 20.
-    let dy = 16.0_f32.next_down();
-    assert_eq!(12.0 * 12.0 + dy * dy, 400.0_f32.next_down());
-    assert_eq!(400.0_f32.next_down().sqrt(), 20.0);
+    // The squares' sum is the float just below 400, whose root rounds to 20; that of the one before does not.
+    let at = 16.0_f32.next_down();
+    assert_eq!(12.0 * 12.0 + at * at, 400.0_f32.next_down());
+    assert!(!under(12.0, at));
+    let dy = 16.0_f32.next_down().next_down();
+    assert_eq!(12.0 * 12.0 + dy * dy, 400.0_f32.next_down().next_down());
     assert!(under(12.0, dy));
 
     // 140 ms after a single note, a circle as near as this is put on its column without a draw.
     let circle = Single { start: 140.0, prev_mask: 1, prev_x: 12.0, ..ask(Kind::Circle) };
-    for (prev_y, expected) in [(dy, 0), (16.0, 1)] {
+    for (prev_y, expected) in [(dy, 0), (at, 1), (16.0, 1)] {
         let SingleEnd::Made { draws, .. } = made(&Single { prev_y, ..circle }, 9).0 else {
             panic!()
         };

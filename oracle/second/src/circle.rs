@@ -132,12 +132,36 @@ pub fn generate(ask: &Ask, draws: &mut Draws) -> Result<(Pattern, bool), Refusal
     Ok((pattern, reverse_stair))
 }
 
+/// Whether the root of a sum, rounded to the nearest f32, is under 20: whether the exact root lies below the middle between 20 and the f32
+/// before it, which is 2^-19 less. At the middle 20 is the even one. The middle's square, and every f32, is exact in f64.
+pub fn root_under_20(sum: f32) -> bool {
+    const MIDDLE: f64 = 20.0 - 1.0 / 1_048_576.0;
+
+    f64::from(sum) < MIDDLE * MIDDLE
+}
+
+/// Counts the sums at most four floats from 400: 400, the two that document 02 names, and the others.
+fn count_sum(sum: f32) {
+    match i64::from(sum.to_bits()) - i64::from(400.0_f32.to_bits()) {
+        0 => hit(B::circle_sum_400),
+        -1 => hit(B::circle_sum_400_less_2_15),
+        -2 => hit(B::circle_sum_400_less_2_14),
+        -4..=4 => hit(B::circle_sum_about_400),
+        _ => {}
+    }
+}
+
 fn wish(ask: &Ask) -> Wish {
     let object = &ask.object;
     let gap = object.start - ask.time;
     let (dx, dy) = (object.x - ask.x, object.y - ask.y);
-    let near = dx * dx + dy * dy < 400.0;
+    let sum = dx * dx + dy * dy;
+    let near = root_under_20(sum);
     let slow = ask.density >= ask.facts.beat_length / 2.5;
+
+    if gap > 125.0 && (gap <= 150.0 || slow) {
+        count_sum(sum);
+    }
 
     let mut wish = Wish {
         force_stack: false,

@@ -216,6 +216,11 @@ branches! {
     circle_far_and_dense
     circle_slow_in_kiai
     circle_slow_without_kiai
+    // The separation decides, and the squares' sum is at most four floats from 400.
+    circle_sum_400
+    circle_sum_400_less_2_15
+    circle_sum_400_less_2_14
+    circle_sum_about_400
     circle_mirror
     circle_gathered_8_finish
     circle_gathered

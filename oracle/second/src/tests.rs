@@ -5,6 +5,7 @@ use jobs::{Object, Rng, Song};
 
 use crate::{
     charttext,
+    circle::root_under_20,
     draws::Draws,
     floats::Ticks,
     job, read_chart,
@@ -823,6 +824,20 @@ fn x_below_0_is_the_first_column() {
     assert_eq!(column(8, 1000.0), 7);
     assert_eq!(column(4, 1000.0), 3);
     assert_eq!(column(4, 128.0), 1);
+}
+
+/// The machine's root is rounded to the nearest f32.
+#[test]
+fn roots_are_under_20_as_the_machine_has_it() {
+    let bound = 400.0_f32.to_bits();
+    let around = bound - 100_000..bound + 100_000;
+    let all = (0..f32::INFINITY.to_bits()).step_by(4_001);
+
+    for bits in around.chain(all) {
+        let sum = f32::from_bits(bits);
+        assert_eq!(root_under_20(sum), sum.sqrt() < 20.0, "{sum}");
+    }
+    assert!(!root_under_20(f32::from_bits(bound - 1)) && root_under_20(f32::from_bits(bound - 2)));
 }
 
 #[test]

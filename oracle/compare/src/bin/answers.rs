@@ -101,6 +101,27 @@ fn long_sliders() -> Vec<Job> {
     list
 }
 
+/// Two circles whose separation has document 02's sums of squares: 400, 400 − 2^−15, whose root is 20, and 400 − 2^−14, whose root is less. Only the
+/// last makes another chart.
+fn rulers() -> Vec<Job> {
+    let mut list = Vec::new();
+    for (columns, gap) in [(4, 130.0), (7, 140.0), (8, 145.0)] {
+        let at = |x, y, start| Object { kind: Kind::Circle, sound: 0, x, y, start };
+        let song = |y| Song { key_choice: columns, objects: vec![at(0.0, 0.0, 1000.0), at(12.0, y, 1000.0 + gap)], ..Song::default() };
+        let under = 16.0_f32.next_down();
+        list.extend([16.0, under, under.next_down()].map(|y| job(&song(y), 100, 100)));
+    }
+
+    list
+}
+
+/// Sees that of each three rulers the first two make the same chart, and the third another.
+fn differ_where_near(list: &[Answered]) {
+    for three in list.chunks(3) {
+        assert!(three[0].chart == three[1].chart && three[1].chart != three[2].chart, "the ruler does not show");
+    }
+}
+
 /// A random job; one in four is damaged. Half of the others get a key choice, most often 8, which has rules of its own.
 fn random(rng: &mut Rng, plenty: &mut [u8]) -> Option<Job> {
     let damaged = rng.percent(25);
@@ -132,7 +153,9 @@ fn main() -> ExitCode {
     hits::start();
 
     let rows = hits::NAMES.len() + 32;
-    let mut list: Vec<Answered> = long_sliders().into_iter().map(Answered::new).collect();
+    let mut list: Vec<Answered> = rulers().into_iter().map(Answered::new).collect();
+    differ_where_near(&list);
+    list.extend(long_sliders().into_iter().map(Answered::new));
     let tried: Vec<Answered> = (0..TRIES).filter_map(|_| random(&mut rng, &mut plenty)).map(Answered::new).collect();
     let sizes: Vec<usize> = tried.iter().map(|answered| answered.bytes().len()).collect();
     let mut met = vec![false; rows];

@@ -146,13 +146,9 @@ pub mod util {
             Self { x, y }
         }
 
-        /// Under 20 exactly when the squares' sum is under 400, as document 01 has it. A plain root
-        /// would round the float just below 400 up to 20.
+        /// The root of the squares' sum, rounded to the nearest f32: `sqrt` is IEEE 754's.
         pub fn length(self) -> f32 {
-            let square = self.x * self.x + self.y * self.y;
-            let root = square.sqrt();
-
-            if square < 400.0 { root.min(20.0_f32.next_down()) } else { root }
+            (self.x * self.x + self.y * self.y).sqrt()
         }
     }
 
