@@ -98,6 +98,24 @@ static int print_object(void) {
     return 0;
 }
 
+/* An announced song: od 5.5 and cs 4 to one decimal, 10 objects of which 2 are sliders or spinners; a slider of 100 pixels, to a whole one. */
+static int print_announced(void) {
+    uint32_t counts;
+    uint64_t earliest, latest;
+    if (sumopine_column_counts(5.45f, 5.55f, 3.95f, 4.05f, 10, 2, &counts) != 0) return 1;
+    printf("announced:");
+    for (unsigned columns = 1; columns <= 9; columns++) {
+        if (counts >> columns & 1) printf(" %u", columns);
+    }
+    if (sumopine_slider_ends(1.0, 1000.0, 1.0, 0.0f, 0.0f, 1000.0, 0, 0, 0, 0, 99.5, 100.5, &earliest, &latest) != 0) return 1;
+    printf(" columns, a slider ends at %" PRIu64 " to %" PRIu64 " ms\n", earliest, latest);
+    /* Refusals set the outputs to 0: a sound that no byte holds, a range that falls, more sliders and spinners than objects. */
+    if (sumopine_slider_ends(1.0, 1000.0, 1.0, 0.0f, 0.0f, 1000.0, 264, 0, 0, 0, 99.5, 100.5, &earliest, &latest) != SUMOPINE_OBJECT) return 1;
+    if (earliest != 0 || latest != 0) return 1;
+    if (sumopine_slider_ends(1.0, 1000.0, 1.0, 0.0f, 0.0f, 1000.0, 0, 0, 0, 0, 100.5, 99.5, &earliest, &latest) != SUMOPINE_RANGE) return 1;
+    return sumopine_column_counts(5.45f, 5.55f, 3.95f, 4.05f, 10, 11, &counts) != SUMOPINE_COUNTS || counts != 0;
+}
+
 int main(int count, char **words) {
     size_t record_len = count > 1 ? read_record(words[1]) : small_record();
     uint32_t allowance = count > 2 ? (uint32_t)strtoul(words[2], NULL, 10) : 1000000;
@@ -110,5 +128,7 @@ int main(int count, char **words) {
         return 1;
     }
     if (print_chart((size_t)length) != 0) return 1;
-    return count > 1 ? 0 : print_object();
+    if (count > 1) return 0;
+    if (print_object() != 0) return 1;
+    return print_announced();
 }

@@ -33,7 +33,9 @@ enum {
     SUMOPINE_CHART_TOO_SHORT = 11,
     SUMOPINE_NO_DRAW_LEFT = 12,
     SUMOPINE_COLUMNS_OR_PREVIOUS = 13,
-    SUMOPINE_BROKEN_CHART = 14
+    SUMOPINE_BROKEN_CHART = 14,
+    SUMOPINE_RANGE = 20,
+    SUMOPINE_COUNTS = 21
 };
 
 /* Converts a job record, with at most `allowance` draws, into a chart at the start of the chart buffer.
@@ -93,6 +95,35 @@ uint32_t sumopine_object(double difficulty, double multiplier, double beat, doub
                          uint16_t repeats, uint32_t has_distance, double distance, uint32_t has_node, uint8_t node, double duration,
                          uint32_t allowance, uint32_t *state_x, uint32_t *state_y, uint32_t *state_z, uint32_t *state_w, uint8_t *notes,
                          size_t notes_len, uint32_t *count, uint32_t *mask, uint32_t *last, uint32_t *stair, uint32_t *draws);
+
+/* Songs announced with rounded figures: a range is its two ends, both included. A float may be anything, also a NaN, and so may a whole
+ * number: what is out of its bounds is refused.
+ *
+ * The column counts that some f32 values of od and cs in the ranges yield, with no key choice. `sliders_and_spinners` of the `objects` are
+ * sliders or spinners; a hold is neither. Without objects cs plays no part.
+ *
+ * Returns   *counts
+ * 0         bit c is 1 exactly where c columns can come, c from 1 to 9
+ * 20, 21    0
+ *
+ * 20 comes where an end of either range is outside 0 to 10 (-0.0 is) or a lower end is above its upper, then 21 where there are more than
+ * 4,095 objects, or more sliders and spinners than objects. */
+uint32_t sumopine_column_counts(float od_low, float od_high, float cs_low, float cs_high, uint32_t objects, uint32_t sliders_and_spinners,
+                                uint32_t *counts);
+
+/* The earliest and the latest end, in milliseconds, of a slider whose distance lies in a range: every f64 in it ends between the two, and each
+ * of the two is reached. `node` is the first node sound, and counts where `has_node` is not 0.
+ *
+ * Returns          *earliest  *latest
+ * 0                an end     an end
+ * 4, 5, 6, 20, 8   0          0
+ *
+ * The checks are made in this order: 4 for the multiplier, 5 for beat length and velocity, 6 for position, start, sound, repeats and node
+ * sound, 20 where an end of the range is outside 0 to 131,072 (-0.0 is) or the lower is above the upper, 8 where the latest end is above
+ * 33,554,431. */
+uint32_t sumopine_slider_ends(double multiplier, double beat, double velocity, float x, float y, double start, uint32_t sound, uint32_t repeats,
+                              uint32_t has_node, uint32_t node, double distance_low, double distance_high, uint64_t *earliest,
+                              uint64_t *latest);
 
 #ifdef __cplusplus
 }

@@ -53,8 +53,8 @@ fn main() {
         fs::write(util.join(empty).with_extension("rs"), "").unwrap();
     }
 
-    // convert/mod.rs is included instead of declared, so that single.rs can stand beside its
-    // generators and reach what is private to it.
+    // convert/mod.rs is included instead of declared, so that single.rs and announced.rs can stand
+    // beside its generators and reach what is private to it.
     let text = r#"
 #[allow(dead_code, unused_imports, reason = "the Rust holds more than conversion")]
 #[path = "{util}/mod.rs"]
@@ -67,6 +67,9 @@ mod mania {
 
         #[path = "{ours}/single.rs"]
         pub mod single;
+
+        #[path = "{ours}/announced.rs"]
+        pub mod announced;
     }
 
     #[path = "{rust}/mania/object.rs"]

@@ -78,7 +78,8 @@ fn position_fits(p: Position) -> bool
     a & b
 }
 
-fn distance_fits(d: Distance) -> bool
+// 0 to 131,072.
+pub fn distance_fits(d: Distance) -> bool
     ensures { λ r. ⌜ r ≡ distanceFits d ⌝ }
 {
     match d {

@@ -10,3 +10,4 @@ pub mod Integers
 pub mod Times
 pub mod Roots
 pub mod Squares
+pub mod Monotone

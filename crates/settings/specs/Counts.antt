@@ -13,11 +13,14 @@ use Rattle.mania.specs.PatternGenerator.{orTenThousand}
 
 -- ---- the columns
 
--- `target_columns`: `long` of the objects are sliders or spinners
+-- `target_columns`, from cs and od rounded: `long` of the objects are sliders or spinners
+unfoldable pub columnsAt : ℕ → ℕ → ℕ → ℕ → ℕ
+columnsAt long objects cs od = if eqb objects 0 then columnsByOd od else columnsByShare (div binary64 (double# long) (double# objects)) cs od
+
+-- `target_columns`, from the settings
 unfoldable pub columnsBy : Settings → ℕ → ℕ → ℕ
-columnsBy s long objects =
-    if eqb objects 0 then columnsByOd (count Even (s .od))
-    else columnsByShare (div binary64 (double# long) (double# objects)) (count Even (s .cs)) (count Even (s .od))
+unfolding columnsAt
+columnsBy s long objects = columnsAt long objects (count Even (s .cs)) (count Even (s .od))
 
 -- the key choice, else another count
 unfoldable pub keysOr : ℕ → ℕ → ℕ

@@ -1,12 +1,13 @@
 -- What callers cite: the counts' definitions are those of the rules, the columns are 1 to 9, and the parts of an accepted record's seed are small.
 -- Assumes nothing.
-use mathlib.Core.Path.{_≡_, refl, sym}
+use mathlib.Core.Path.{_≡_, refl, sym, _∙_}
 use Prim.Native.Nat.{ℕ, zero, suc, _+_, _*_, _^_, _≤_, _<_}
-use native.Mathlib.Nat.{le-trans, le-of-eq, mul-one, mul-pos, mul-le-mul-right}
+use native.Mathlib.Nat.{le-trans, le-of-eq, lt-of-le-of-lt, mul-one, mul-pos, mul-le-mul-right}
 use native.Mathlib.Omega.{arith}
 use mathlib.Core.Bool.{Bool, true, false, _||_}
 use mathlib.Core.List.{List, [], _∷_}
-use borrow.Author.Tests.{ne-eqb}
+use mathlib.Core.Logic.{_⊎_, inl, inr}
+use borrow.Author.Tests.{ne-eqb, leb-true, leb-false, le-leb, lt-leb}
 use lib.Dec.{T, eqb, leb, ltb, lit≤}
 use lib.Ieee.{Float, binary32, binary64, ofInt, round, add, mul, div, lt}
 use lib.Ieee.Positive.{num, den, den-pos}
@@ -27,7 +28,7 @@ use Rattle.mania.specs.Convert.{columnsByOd, columnsByShare, targetColumns, col
 use Rattle.model.specs.Totals.{slidersAndSpinners}
 use Rattle.mania.specs.PatternGenerator.{drainTime, conversionDifficulty}
 use Rattle.model.specs.Totals.{breakTime, firstStart, lastStart}
-use Rattle.settings.specs.Counts.{columnsBy, keysOr, drainOf, difficultyOf}
+use Rattle.settings.specs.Counts.{columnsAt, columnsBy, keysOr, drainOf, difficultyOf}
 use Rattle.settings.specs.Accepted.{Accepted}
 
 -- ---- counts in place of lists
@@ -75,17 +76,31 @@ share-deck share cs od =
     (pick (lt share (double 3 10) || leb 5 cs) (few (ltb 5 od)) _ (pick (ltb 5 od) 7 6 (lit≤ tt, lit≤ tt) (lit≤ tt, lit≤ tt))
     (pick (lt (double 6 10) share) (many (ltb 4 od)) _ (pick (ltb 4 od) 5 4 (lit≤ tt, lit≤ tt) (lit≤ tt, lit≤ tt)) (od-deck od)))
 
-by-deck : (s : Settings) (long objects : ℕ) → Deck (columnsBy s long objects)
-unfolding columnsBy
-by-deck s long objects =
-    pick (eqb objects 0) (columnsByOd (count Even (s .od))) _ (od-deck (count Even (s .od)))
-    (share-deck (div binary64 (double# long) (double# objects)) (count Even (s .cs)) (count Even (s .od)))
+pub at-deck : (long objects cs od : ℕ) → Deck (columnsAt long objects cs od)
+unfolding columnsAt
+at-deck long objects cs od =
+    pick (eqb objects 0) (columnsByOd od) _ (od-deck od) (share-deck (div binary64 (double# long) (double# objects)) cs od)
 
 -- the key choice of an accepted record is at most 9
 pub columns-deck : (key : ℕ) (s : Settings) (long objects : ℕ) → key ≤ 9 → Deck (keysOr key (columnsBy s long objects))
-unfolding keysOr
-columns-deck zero s long objects h = by-deck s long objects
+unfolding keysOr columnsBy
+columns-deck zero s long objects h = at-deck long objects (count Even (s .cs)) (count Even (s .od))
 columns-deck (suc k) s long objects h = rw (some k) (omega arith, h)
+
+-- ---- cs counts only by whether it is 5 or more
+
+by-five : (cs cs' long objects od : ℕ) → leb 5 cs ≡ leb 5 cs' → columnsAt long objects cs od ≡ columnsAt long objects cs' od
+unfolding columnsAt columnsByShare
+by-five cs cs' long objects od h = rw h
+
+-- so a cs between two others gives what one of them gives
+pub columns-between : (long objects cs low high od : ℕ) → low ≤ cs → cs ≤ high
+    → (columnsAt long objects cs od ≡ columnsAt long objects low od) ⊎ (columnsAt long objects cs od ≡ columnsAt long objects high od)
+columns-between long objects cs low high od h k = go (leb 5 cs) refl
+  where
+    go : (b : Bool) → leb 5 cs ≡ b → (columnsAt long objects cs od ≡ columnsAt long objects low od) ⊎ (columnsAt long objects cs od ≡ columnsAt long objects high od)
+    go true e = inr (by-five cs high long objects od (e ∙ sym (le-leb 5 high (le-trans (leb-true 5 cs e) k))))
+    go false e = inl (by-five cs low long objects od (e ∙ sym (lt-leb 5 low (lt-of-le-of-lt h (leb-false 5 cs e)))))
 
 -- ---- the seed of an accepted record
 

@@ -5,7 +5,7 @@ ghost use Rattle.rules.specs.Rule.{if_then_else_};
 ghost use Rattle.mania.specs.Convert as Convert;
 ghost use Rattle.mania.specs.Convert.{columnsByOd, columnsByShare};
 ghost use Rattle.mania.specs.PatternGenerator.{orTenThousand};
-ghost use Rattle.settings.specs.Counts.{columnsBy, keysOr, drainOf, difficultyOf};
+ghost use Rattle.settings.specs.Counts.{columnsAt, columnsBy, keysOr, drainOf, difficultyOf};
 ghost use Rattle.settings.specs.Accepted.{Accepted};
 use floats::Way;
 use model::Settings;
@@ -59,16 +59,23 @@ fn columns_by_share(share: f64, cs: u32, od: u32) -> u8
     }
 }
 
-// `target_columns` without a key choice: `long` of the objects are sliders or spinners.
+// `target_columns` without a key choice, from cs and od rounded: `long` of the objects are sliders or spinners.
+pub fn columns_at(cs: u32, od: u32, long: u32, objects: u32) -> u8
+    ensures { λ r. ⌜ r ≡ columnsAt long objects cs od ⌝ }
+{
+    if objects == 0 {
+        return columns_by_od(od);
+    }
+    columns_by_share((long as f64) / (objects as f64), cs, od)
+}
+
+// `target_columns` without a key choice, from the settings.
 pub fn target_columns(s: Settings, long: u32, objects: u32) -> u8
     ensures { λ r. ⌜ r ≡ columnsBy s long objects ⌝ }
 {
     let cs = floats::to_count_f32(s.cs, Way::Even);
     let od = floats::to_count_f32(s.od, Way::Even);
-    if objects == 0 {
-        return columns_by_od(od);
-    }
-    columns_by_share((long as f64) / (objects as f64), cs, od)
+    columns_at(cs, od, long, objects)
 }
 
 // The key choice, else `target_columns`.

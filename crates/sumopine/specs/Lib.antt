@@ -1,2 +1,3 @@
 -- What a host in C gets.
 pub mod Numbers
+pub mod Announced

@@ -1,4 +1,5 @@
-//! The three entries of document 01, as types that every implementation answers with.
+//! The three entries of document 01, and what document 02 adds to them, as types that every
+//! implementation answers with.
 
 /// How a job ends. The chart buffer holds the chart, or is all zero.
 #[derive(Clone, Copy, Debug, PartialEq, Eq)]
@@ -64,6 +65,62 @@ pub enum SingleEnd {
     Made { notes: u32, mask: u32, last: u32, reverse_stair: bool, state: State, draws: u32 },
     /// Nothing is written; the state is the one lent.
     Refused { number: u8, state: State },
+}
+
+/// A song announced with rounded figures (document 02, change request 11): ranges of od and cs,
+/// each its lower and its upper end, and the counts. The answer has bit c for c columns, or is a
+/// refusal's number.
+#[derive(Clone, Copy, Debug, PartialEq)]
+pub struct AnnouncedSong {
+    pub od: [f32; 2],
+    pub cs: [f32; 2],
+    pub objects: u32,
+    pub sliders_and_spinners: u32,
+}
+
+/// A slider announced with a range for its distance. The answer is its earliest and its latest end,
+/// or a refusal's number.
+#[derive(Clone, Copy, Debug, PartialEq)]
+pub struct AnnouncedSlider {
+    pub multiplier: f64,
+    pub beat_length: f64,
+    pub velocity: f64,
+    pub x: f32,
+    pub y: f32,
+    pub start: f64,
+    pub sound: u32,
+    pub repeats: u32,
+    pub node_sound: Option<u32>,
+    pub distance: [f64; 2],
+}
+
+impl AnnouncedSlider {
+    /// The same slider at the single-object entry: one column, nothing before it, the facts that
+    /// its end does not take 0, and no draw.
+    pub fn single(&self, distance: Option<f64>) -> Single {
+        Single {
+            x: self.x,
+            y: self.y,
+            start: self.start,
+            sound: self.sound,
+            kind: Kind::Slider { repeats: self.repeats, distance, node_sound: self.node_sound },
+            difficulty: 0.0,
+            multiplier: self.multiplier,
+            beat_length: self.beat_length,
+            velocity: self.velocity,
+            kiai: false,
+            density: 0.0,
+            prev_time: 0.0,
+            prev_x: 0.0,
+            prev_y: 0.0,
+            prev_mask: 0,
+            prev_last: 0,
+            reverse_stair: false,
+            columns: 1,
+            state: State { x: 0, y: 0, z: 0, w: 0 },
+            allowance: 0,
+        }
+    }
 }
 
 /// A note of a chart, floats as bit patterns. A circle's duration is 0.

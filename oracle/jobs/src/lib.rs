@@ -1,5 +1,6 @@
 //! Random and damaged inputs for every entry of document 01, the same for the same seed.
 
+mod announced;
 mod charts;
 mod damage;
 mod eight;
@@ -9,6 +10,7 @@ mod rng;
 mod singles;
 mod song;
 
+pub use announced::{announced_slider, announced_song, distances};
 pub use charts::{chart, damaged_chart};
 pub use damage::damaged;
 pub use eight::song_of_8;

@@ -283,7 +283,7 @@ pub fn damaged_single(rng: &mut Rng) -> (Single, usize) {
     (ask, buffer)
 }
 
-fn beyond(rng: &mut Rng, low: f64, high: f64) -> f64 {
+pub(crate) fn beyond(rng: &mut Rng, low: f64, high: f64) -> f64 {
     match rng.below(10) {
         0 => f64::NAN,
         1 => f64::INFINITY,
@@ -298,7 +298,7 @@ fn beyond(rng: &mut Rng, low: f64, high: f64) -> f64 {
     }
 }
 
-fn beyond32(rng: &mut Rng) -> f32 {
+pub(crate) fn beyond32(rng: &mut Rng) -> f32 {
     match rng.below(10) {
         0 => f32::NAN,
         1 => f32::INFINITY,
@@ -313,7 +313,7 @@ fn beyond32(rng: &mut Rng) -> f32 {
     }
 }
 
-fn wide(rng: &mut Rng, bound: u32) -> u32 {
+pub(crate) fn wide(rng: &mut Rng, bound: u32) -> u32 {
     let word = rng.word() as u32;
     rng.pick(&[bound, bound + 1, bound - 1, u32::MAX, 255, 256, word])
 }

@@ -1,7 +1,8 @@
 use entry::{JobEnd, SingleEnd, State};
 
 use crate::{
-    Name, Need, Rng, Song, chart, damaged, damaged_chart, damaged_single, lent, pack, record,
+    Name, Need, Rng, Song, announced_slider, announced_song, chart, damaged, damaged_chart,
+    damaged_single, lent, pack, record,
     records::{STEP, squares},
     single, song, state_giving,
 };
@@ -39,11 +40,17 @@ fn the_same_seed_gives_the_same_inputs() {
         (0..50)
             .map(|_| {
                 let asks = format!("{:?} {:?}", single(&mut rng), damaged_single(&mut rng));
+                let figures = format!(
+                    "{:?} {:?}",
+                    announced_song(&mut rng),
+                    announced_slider(&mut rng)
+                );
                 let charts = (chart(&mut rng), damaged_chart(&mut rng));
                 (
                     record(&mut rng),
                     damaged(&mut rng),
                     asks,
+                    figures,
                     charts,
                     lent(&mut rng, None),
                 )

@@ -2,6 +2,7 @@
 
 use entry::{Chart, JobEnd, Note};
 
+pub mod announced;
 pub mod object;
 
 mod c {

@@ -36,6 +36,14 @@ pub fn write_notes(notes: impl Iterator<Item = Note>, buffer: &mut [u8]) {
     }
 }
 
+/// The note in these bytes, which none of the reader's rules need keep.
+pub fn note_at(bytes: &[u8]) -> Note {
+    let word =
+        |from| bytes[from..from + 8].iter().fold(0, |word, byte| word << 8 | u64::from(*byte));
+
+    Note { column: bytes[0] >> 4, hold: bytes[0] >> 3 & 1 == 1, start: word(1), duration: word(9) }
+}
+
 pub fn write_head(columns: u8, notes: usize, draws: u32, buffer: &mut [u8]) {
     buffer[..4].copy_from_slice(&(notes as u32).to_be_bytes());
     buffer[0] = 1 << 4 | columns;
@@ -82,12 +90,7 @@ pub fn read_chart(bytes: &[u8]) -> Option<Chart> {
     let mut before = 0.0;
 
     for bytes in rest.chunks_exact(NOTE) {
-        let note = Note {
-            column: bytes[0] >> 4,
-            hold: bytes[0] >> 3 & 1 == 1,
-            start: u64::from_be_bytes(bytes[1..9].try_into().ok()?),
-            duration: u64::from_be_bytes(bytes[9..17].try_into().ok()?),
-        };
+        let note = note_at(bytes);
         let start = f64::from_bits(note.start);
         let duration = f64::from_bits(note.duration);
 

@@ -19,4 +19,5 @@ mod tests;
 
 pub use chart::read_chart;
 pub use job::{Converted, Prepared, convert_only, job, prepare};
+pub use mania::convert::announced::{Announced, announced, column_counts, slider_end, slider_ends};
 pub use mania::convert::single::single;

@@ -279,7 +279,7 @@ pub fn job(record: &[u8], chart: &mut [u8], allowance: u32) -> JobEnd {
 }
 
 /// Refusals 13, 4, 5 and 6 of a single object, and what it then asks.
-fn checked(single: &Single) -> Result<Ask, Refusal> {
+pub fn checked(single: &Single) -> Result<Ask, Refusal> {
     let Single {
         columns,
         prev_mask,

@@ -1,6 +1,7 @@
-//! A second implementation of the mania conversion, written from document 01.
+//! A second implementation of the mania conversion, written from documents 01 and 02.
 //! Patterns are a mask, a last column and notes; refusals are values; draws count against an allowance.
 
+mod announced;
 mod bits;
 mod chart;
 mod circle;
@@ -16,6 +17,7 @@ mod search;
 mod slider;
 mod text;
 
+pub use announced::{column_counts, slider_ends};
 pub use chart::{read_chart, write_chart};
 pub use convert::{job, single};
 pub use text::charttext;

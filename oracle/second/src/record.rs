@@ -331,6 +331,55 @@ pub fn read(bytes: &[u8]) -> Result<Song, Refusal> {
     Ok(song)
 }
 
+/// The columns without a key choice, from cs and od rounded: `long` of the objects are sliders or
+/// spinners.
+pub fn columns_by_share(long: usize, objects: usize, cs: f32, od: f32) -> i32 {
+    if objects == 0 {
+        hit(B::columns_no_objects);
+    } else {
+        let share = long as f64 / objects as f64;
+
+        if share < 0.2 {
+            hit(B::columns_share_under_0_2);
+            return 7;
+        }
+
+        if share < 0.3 || cs >= 5.0 {
+            hit(if share < 0.3 {
+                B::columns_share_under_0_3
+            } else {
+                B::columns_cs_from_5
+            });
+            hit(if od > 5.0 {
+                B::columns_od_over_5
+            } else {
+                B::columns_od_up_to_5
+            });
+            return if od > 5.0 { 7 } else { 6 };
+        }
+
+        if share > 0.6 {
+            hit(if od > 4.0 {
+                B::columns_share_over_0_6_od
+            } else {
+                B::columns_share_over_0_6
+            });
+            return if od > 4.0 { 5 } else { 4 };
+        }
+
+        hit(B::columns_share_between);
+    }
+
+    let wanted = od as i32 + 1;
+    hit(match wanted {
+        ..4 => B::columns_raised_to_4,
+        4..=7 => B::columns_by_od,
+        _ => B::columns_cut_to_7,
+    });
+
+    wanted.clamp(4, 7)
+}
+
 impl Song {
     pub fn seed(&self) -> i32 {
         let Settings { hp, cs, od, ar, .. } = self.settings;
@@ -344,55 +393,16 @@ impl Song {
             return i32::from(self.key_choice);
         }
 
-        let cs = self.settings.cs.round_ties_even();
-        let od = self.settings.od.round_ties_even();
+        let long = |object: &&Object| matches!(object.kind, Kind::Slider { .. } | Kind::Spinner(_));
+        let long = self.objects.iter().filter(long).count();
+        let Settings { cs, od, .. } = self.settings;
 
-        if self.objects.is_empty() {
-            hit(B::columns_no_objects);
-        } else {
-            let long =
-                |object: &&Object| matches!(object.kind, Kind::Slider { .. } | Kind::Spinner(_));
-            let share = self.objects.iter().filter(long).count() as f64 / self.objects.len() as f64;
-
-            if share < 0.2 {
-                hit(B::columns_share_under_0_2);
-                return 7;
-            }
-
-            if share < 0.3 || cs >= 5.0 {
-                hit(if share < 0.3 {
-                    B::columns_share_under_0_3
-                } else {
-                    B::columns_cs_from_5
-                });
-                hit(if od > 5.0 {
-                    B::columns_od_over_5
-                } else {
-                    B::columns_od_up_to_5
-                });
-                return if od > 5.0 { 7 } else { 6 };
-            }
-
-            if share > 0.6 {
-                hit(if od > 4.0 {
-                    B::columns_share_over_0_6_od
-                } else {
-                    B::columns_share_over_0_6
-                });
-                return if od > 4.0 { 5 } else { 4 };
-            }
-
-            hit(B::columns_share_between);
-        }
-
-        let wanted = od as i32 + 1;
-        hit(match wanted {
-            ..4 => B::columns_raised_to_4,
-            4..=7 => B::columns_by_od,
-            _ => B::columns_cut_to_7,
-        });
-
-        wanted.clamp(4, 7)
+        columns_by_share(
+            long,
+            self.objects.len(),
+            cs.round_ties_even(),
+            od.round_ties_even(),
+        )
     }
 
     /// The conversion difficulty.

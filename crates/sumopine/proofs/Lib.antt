@@ -1,0 +1,2 @@
+-- Laws for the C exports: `Cut`, numbers above what their field can hold.
+pub mod Cut
