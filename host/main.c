@@ -81,6 +81,18 @@ static int print_chart(size_t length) {
     return 0;
 }
 
+/* Notes around a moment: those that start in the first second and those held at 1300 ms, the end of the small record's hold. */
+static int print_around(size_t length) {
+    uint64_t starting, held;
+    uint32_t places[4], found, place;
+    if (sumopine_notes_between(chart, length, 0.0, 1000.0, places, 4, &starting) != 0) return 1;
+    if (sumopine_holds_at(chart, length, 1300.0, places, 4, &held) != 0) return 1;
+    if (sumopine_nearest_note(chart, length, 1, 0.0, &found, &place) != 0) return 1;
+    printf("%" PRIu64 " notes start in the first second, %" PRIu64 " are held at 1300 ms\n", starting, held);
+    if (found) printf("note %" PRIu32 " of column 1 is nearest to the beginning\n", place);
+    return 0;
+}
+
 /* The small record's hold alone, on 9 columns, after no other object, from the state of seed 0. It makes one note. */
 static int print_object(void) {
     uint8_t *note = malloc(SUMOPINE_NOTE_BYTES);
@@ -129,6 +141,7 @@ int main(int count, char **words) {
     }
     if (print_chart((size_t)length) != 0) return 1;
     if (count > 1) return 0;
+    if (print_around((size_t)length) != 0) return 1;
     if (print_object() != 0) return 1;
     return print_announced();
 }

@@ -34,6 +34,9 @@ enum {
     SUMOPINE_NO_DRAW_LEFT = 12,
     SUMOPINE_COLUMNS_OR_PREVIOUS = 13,
     SUMOPINE_BROKEN_CHART = 14,
+    SUMOPINE_TIMES = 17,
+    SUMOPINE_COLUMN_OFF_DECK = 18,
+    SUMOPINE_LIST_TOO_SHORT = 19,
     SUMOPINE_RANGE = 20,
     SUMOPINE_COUNTS = 21
 };
@@ -69,6 +72,44 @@ uint32_t sumopine_read_chart(const uint8_t *chart, size_t chart_len, uint32_t *c
  * a column up to 15, and any bits. The chart is only read. */
 uint32_t sumopine_note(const uint8_t *chart, size_t chart_len, uint32_t index, uint32_t *column, uint32_t *hold, uint64_t *start,
                        uint64_t *duration);
+
+/* Lists the notes that start within two times, in ms, ends included, by their places in the chart: counted from 0, rising, from the start of
+ * the list of `places_len` numbers.
+ *
+ * Returns   *count                   the list
+ * 0         how many places, or 0    the places; later entries keep their values
+ * 14        0                        as lent: the chart is broken
+ * 17        0                        as lent: a time is not finite, or the first is above the second
+ * 19        0                        as lent: it is too short
+ *
+ * A count of 0 says that nothing is found. Times may be anything, also a NaN. The chart is only read. */
+uint32_t sumopine_notes_between(const uint8_t *chart, size_t chart_len, double first, double second, uint32_t *places, size_t places_len,
+                                uint64_t *count);
+
+/* Lists the holds that cover an instant, in ms, both ends included, by their places in the chart, as above. A hold's end is the exact sum of its
+ * start and its duration.
+ *
+ * Returns   *count                   the list
+ * 0         how many places, or 0    the places; later entries keep their values
+ * 14        0                        as lent: the chart is broken
+ * 17        0                        as lent: the time is not finite
+ * 19        0                        as lent: it is too short
+ *
+ * A count of 0 says that nothing is found. The chart is only read. */
+uint32_t sumopine_holds_at(const uint8_t *chart, size_t chart_len, double time, uint32_t *places, size_t places_len, uint64_t *count);
+
+/* The place of the note of a column whose start is nearest to a time; of two equally near the earlier, and of equal starts the first in the
+ * chart. Distances are exact.
+ *
+ * Returns   *found   *place
+ * 0         1        the note's place
+ * 0         0        0: the column has no note
+ * 14        0        0: the chart is broken
+ * 17        0        0: the time is not finite
+ * 18        0        0: the column is not on the deck
+ *
+ * The chart is only read. */
+uint32_t sumopine_nearest_note(const uint8_t *chart, size_t chart_len, uint32_t column, double time, uint32_t *found, uint32_t *place);
 
 /* Kinds of an object. */
 enum { SUMOPINE_CIRCLE = 0, SUMOPINE_SLIDER = 1, SUMOPINE_SPINNER = 2, SUMOPINE_HOLD = 3 };

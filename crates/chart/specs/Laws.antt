@@ -1,6 +1,5 @@
 -- What the proofs of this crate and of others cite.
 pub mod Times
-pub mod Sums
 pub mod Bytes
 pub mod Notes
 pub mod Reader

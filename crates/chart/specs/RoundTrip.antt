@@ -1,10 +1,10 @@
 -- Reading the encoding of a chart that keeps the rule gives the chart back, and every list of bytes that is read is the encoding of what it gives.
 -- Assumes nothing.
 use mathlib.Core.Path.{_≡_, refl, sym, ap, ap₂, _∙_, subst}
-use mathlib.Core.Bool.{Bool, true, false}
+use mathlib.Core.Bool.{true}
 use mathlib.Core.List.{List, [], _∷_, _++_, append-assoc}
-use mathlib.Core.Option.{Option, none, some, Option·some-injective}
-use Prim.Native.Nat.{ℕ, zero, suc, _+_, _*_, _/_, _%_, _≤_, _<_}
+use mathlib.Core.Option.{some}
+use Prim.Native.Nat.{ℕ, zero, suc, _+_, _*_, _/_, _%_, _≤_}
 use native.Mathlib.Omega.{arith}
 use lib.Dec.{eqb}
 use lib.ListN.{length, getD, drop, length-drop}
@@ -13,10 +13,10 @@ use borrow.Author.Tests.{le-leb, eq-eqb, leb-true, eqb-true}
 use Rattle.chart.specs.declared.Note.{Note}
 use Rattle.chart.specs.Bytes.{Bytes, be, num}
 use Rattle.chart.specs.Tests.{every, both, passes}
-use Rattle.chart.specs.Chart.{noteBytes, body, header, encode, noteOf, notesOf, headTests, okNote, okNotes, okRow, okRows, okHead, okChart, Well, Score, scoreOf, decode, columnsOf, countOf, drawsOf, noteIn}
+use Rattle.chart.specs.Chart.{noteBytes, body, header, encode, noteOf, notesOf, headTests, okNote, okNotes, okRow, okRows, okHead, okChart, Well, Score, scoreOf, decode, columnsOf, countOf, drawsOf}
 use Rattle.chart.specs.Laws.Bytes.{bytes-drop, num-be, be-num, num-fits}
-use Rattle.chart.specs.Laws.Notes.{note-back, row-back, kind-first, length-body, length-encode, length-notesOf, notes-at}
-use Rattle.chart.specs.Laws.Reader.{note-fits}
+use Rattle.chart.specs.Laws.Notes.{note-back, row-back, kind-first, length-body, length-notesOf}
+use Rattle.chart.specs.Laws.Reader.{note-fits, read-score}
 
 -- ---- from a chart to its bytes and back
 
@@ -100,33 +100,12 @@ chart-back s h ok =
 
 pub encode-decode : (s : List ℕ) → Bytes s → (c : Score) → decode s ≡ some c
     → (s ≡ encode (c .columns) (c .draws) (c .notes)) × Well (c .columns) (c .draws) (c .notes)
-unfolding decode scoreOf
-encode-decode s h c e = by-test (okChart s) refl
+unfolding scoreOf
+encode-decode s h c e = let k = read-score s c e in subst Back (k .1) (chart-back s h (k .0))
   where
     Back : Score → Type 0
     Back c = (s ≡ encode (c .columns) (c .draws) (c .notes)) × Well (c .columns) (c .draws) (c .notes)
 
-    by-test : (t : Bool) → okChart s ≡ t → Back c
-    by-test true ok =
-        let is : scoreOf s ≡ c = Option·some-injective (scoreOf s) c (rw ok at e) in
-        subst Back is (chart-back s h ok)
-    by-test false bad = absurd (let z : _≡_ {A = Option Score} none (some c) = rw bad at e in let y : _≡_ {A = ℕ} 0 1 = cc in omega arith)
-
 -- so two lists of bytes that are read as the same chart are the same
 pub only-encoding : (s t : List ℕ) → Bytes s → Bytes t → (c : Score) → decode s ≡ some c → decode t ≡ some c → s ≡ t
 only-encoding s t hs ht c es et = encode-decode s hs c es .0 ∙ sym (encode-decode t ht c et .0)
-
--- and the note of each index is found where it stands
-pub note-in : (s : List ℕ) → Bytes s → (c : Score) → decode s ≡ some c → (i : ℕ) (d : Note) → i < length (c .notes) → noteIn s i ≡ some (getD (c .notes) i d)
-unfolding noteIn decode scoreOf
-note-in s h c e i d l = by-test (okChart s) refl
-  where
-    by-test : (t : Bool) → okChart s ≡ t → noteIn s i ≡ some (getD (c .notes) i d)
-    by-test true ok =
-        let is : scoreOf s ≡ c = Option·some-injective (scoreOf s) c (rw ok at e) in
-        let notes : notesOf (countOf s) (drop 8 s) ≡ c .notes = ap (λ (t : Score). t .notes) is in
-        let below : i < countOf s = omega (arith, ap (λ (t : List Note). length t) notes, length-notesOf (countOf s) (drop 8 s)) in
-        let size : length s ≡ 8 + 17 * countOf s = ap (λ (t : List ℕ). length t) (chart-back s h ok .0) ∙ length-encode (columnsOf s) (drawsOf s) (notesOf (countOf s) (drop 8 s)) ∙ rw (length-notesOf (countOf s) (drop 8 s)) in
-        let room : 8 + 17 * i + 17 ≤ length s = omega arith in
-        rw (le-leb (8 + 17 * i + 17) (length s) room, ← notes, notes-at (countOf s) (drop 8 s) i d below, drop-drop (17 * i) 8 s)
-    by-test false bad = absurd (let z : _≡_ {A = Option Score} none (some c) = rw bad at e in let y : _≡_ {A = ℕ} 0 1 = cc in omega arith)

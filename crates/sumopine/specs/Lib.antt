@@ -1,3 +1,4 @@
 -- What a host in C gets.
 pub mod Numbers
 pub mod Announced
+pub mod Lookups

@@ -1,10 +1,11 @@
 //! The proved library's speed beside that of the unchanged Rust's `convert`, as tables in Markdown.
 //! Arguments: how many runs a median is taken of (7), the ms that a run lasts at least (100), the seed (1).
-//! Or: `largest`, one run of the job with the most notes; `once ROW ours` and `once ROW rust`, one call for a profiler.
+//! Or: `lookups`, that table alone; `largest`, one run of the job with the most notes; `once ROW ours` and `once ROW rust`, one call for a profiler.
 //! Every job is compared with the Rust first, its answer and every byte of its chart buffer; the program fails where they differ.
 
 mod growth;
 mod job;
+mod lookups;
 mod refused;
 mod songs;
 mod tables;
@@ -90,6 +91,7 @@ fn tables(numbers: &[u64]) {
     refused::table(seed, plan);
     growth::songs(seed, plan);
     growth::orders(seed, plan);
+    lookups::table(seed, plan);
     if let Some(share) = waited() {
         println!("\nThe program waited for a processor for {share:.1} % of its time; the figures hold where that is near 0.");
     }
@@ -100,6 +102,7 @@ fn main() {
     let words: Vec<&str> = words.iter().map(String::as_str).collect();
     match words[..] {
         ["once", row, side] => once(row.parse().expect("a row"), side),
+        ["lookups"] => lookups::table(SEED, Plan { runs: 7, least: Duration::from_millis(100) }),
         ["largest"] => song_table([("largest", songs::largest(SEED))], Plan { runs: 1, least: Duration::ZERO }),
         _ => tables(&words.iter().map(|word| word.parse().expect("a number")).collect::<Vec<_>>()),
     }

@@ -33,3 +33,50 @@ pub fn job(rng: &mut Rng, plenty: &mut [u8]) -> Job {
 pub fn lent_bytes(length: usize) -> Vec<u8> {
     (0..length).map(|i| (i % 251) as u8 + 1).collect()
 }
+
+#[cfg(test)]
+mod tests {
+    use entry::{ListEnd, NearestEnd, Note};
+
+    /// A hold at 0.1 for 0.2 in column 0, circles at 1 and 3 there, and one at 3 in column 1.
+    fn chart() -> Vec<u8> {
+        let note = |column, start: f64, duration: f64| Note { column, hold: duration > 0.0, start: start.to_bits(), duration: duration.to_bits() };
+
+        second::write_chart(2, 0, &[note(0, 0.1, 0.2), note(0, 1.0, 0.0), note(0, 3.0, 0.0), note(1, 3.0, 0.0)])
+    }
+
+    /// The exact end of the hold lies between 0.1 + 0.2 rounded down and up.
+    #[test]
+    fn ends_are_exact() {
+        for holds_at in [reference::holds_at, second::holds_at] {
+            let mut list = [7; 2];
+            assert_eq!(holds_at(&chart(), 0.1 + 0.2, &mut list), ListEnd::Places { count: 0 });
+            assert_eq!(list, [7, 7]);
+            assert_eq!(holds_at(&chart(), (0.1_f64 + 0.2).next_down(), &mut list), ListEnd::Places { count: 1 });
+            assert_eq!(list, [0, 7]);
+        }
+    }
+
+    #[test]
+    fn starts_are_included_and_short_lists_untouched() {
+        for notes_between in [reference::notes_between, second::notes_between] {
+            let mut list = [7; 4];
+            assert_eq!(notes_between(&chart(), 1.0, 3.0, &mut list), ListEnd::Places { count: 3 });
+            assert_eq!(list, [1, 2, 3, 7]);
+            let mut list = [7; 2];
+            assert_eq!(notes_between(&chart(), 1.0, 3.0, &mut list), ListEnd::Refused { number: 19 });
+            assert_eq!(list, [7, 7]);
+            assert_eq!(notes_between(&chart(), 3.0, 1.0, &mut list), ListEnd::Refused { number: 17 });
+        }
+    }
+
+    #[test]
+    fn the_earlier_of_two_equally_near() {
+        for nearest_note in [reference::nearest_note, second::nearest_note] {
+            assert_eq!(nearest_note(&chart(), 0, 2.0), NearestEnd::Place { place: 1 });
+            assert_eq!(nearest_note(&chart(), 0, 2.0_f64.next_up()), NearestEnd::Place { place: 2 });
+            assert_eq!(nearest_note(&chart(), 0, -0.0), NearestEnd::Place { place: 0 });
+            assert_eq!(nearest_note(&chart(), 2, 2.0), NearestEnd::Refused { number: 18 });
+        }
+    }
+}

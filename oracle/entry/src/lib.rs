@@ -156,3 +156,21 @@ impl Chart {
             + &notes.collect::<String>()
     }
 }
+
+/// How a list lookup in a chart ends (document 02, CR 10).
+#[derive(Clone, Copy, Debug, PartialEq, Eq)]
+pub enum ListEnd {
+    /// So many places stand at the list's start, 0 where nothing is found; later entries keep their values.
+    Places { count: usize },
+    /// Refusals 14, 17, 19. The list is as it was lent.
+    Refused { number: u8 },
+}
+
+/// How the lookup of the nearest note of a column ends (document 02, CR 10).
+#[derive(Clone, Copy, Debug, PartialEq, Eq)]
+pub enum NearestEnd {
+    Place { place: u32 },
+    Nothing,
+    /// Refusals 14, 17, 18.
+    Refused { number: u8 },
+}

@@ -11,6 +11,7 @@ use model::{
 
 mod chart;
 mod job;
+mod lookups;
 mod ranges;
 mod record;
 mod stop;
@@ -19,5 +20,6 @@ mod tests;
 
 pub use chart::read_chart;
 pub use job::{Converted, Prepared, convert_only, job, prepare};
+pub use lookups::{holds_at, nearest_note, notes_between};
 pub use mania::convert::announced::{Announced, announced, column_counts, slider_end, slider_ends};
 pub use mania::convert::single::single;

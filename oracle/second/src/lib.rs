@@ -10,6 +10,7 @@ mod draws;
 mod ended;
 mod floats;
 pub mod hits;
+mod lookups;
 mod pattern;
 mod record;
 mod refusal;
@@ -20,6 +21,7 @@ mod text;
 pub use announced::{column_counts, slider_ends};
 pub use chart::{read_chart, write_chart};
 pub use convert::{job, single};
+pub use lookups::{holds_at, nearest_note, notes_between};
 pub use text::charttext;
 
 #[cfg(test)]

@@ -1,9 +1,10 @@
 -- The reader's tests, one after another, and its answers.
 -- Assumes nothing.
-use mathlib.Core.Path.{_≡_, sym, _∙_}
-use mathlib.Core.Bool.{true, false, _&&_, and-false, and-true}
-use mathlib.Core.List.{List}
-use Prim.Native.Nat.{ℕ, suc, _+_, _-_, _*_, _/_, _%_, _≤_, _<_}
+use mathlib.Core.Path.{_≡_, refl, sym, ap, _∙_}
+use mathlib.Core.Bool.{Bool, true, false, _&&_, and-false, and-true}
+use mathlib.Core.List.{List, [], _∷_}
+use mathlib.Core.Option.{Option, none, some, Option·some-injective}
+use Prim.Native.Nat.{ℕ, zero, suc, _+_, _-_, _*_, _/_, _%_, _≤_, _<_}
 use native.Mathlib.Nat.{add-zero}
 use native.Mathlib.Omega.{arith}
 use lib.Dec.{leb, ltb, eqb}
@@ -12,11 +13,11 @@ use lib.Seq.{getD-drop, drop-drop}
 use borrow.Author.Tests.{ne-eqb, eq-eqb, le-leb, eqb-true}
 use Rattle.floats.specs.Ticks.{ticks}
 use Rattle.chart.specs.declared.Note.{Note}
-use Rattle.chart.specs.Tests.{every, passes, fails}
+use Rattle.chart.specs.Tests.{every, passes, fails, both}
 use Rattle.chart.specs.Time.{time, isTime, latest}
-use Rattle.chart.specs.Chart.{refused, accepted, reading, readingOf, columnsOf, countOf, decode, drawsOf, headTests, lasts, noteOf, noteTests, okChart, okHead, okNote, okRow, okRows, scoreOf}
+use Rattle.chart.specs.Chart.{Score, refused, accepted, reading, readingOf, columnsOf, countOf, decode, drawsOf, headTests, lasts, noteIn, noteOf, notesOf, noteTests, okChart, okHead, okNote, okNotes, okRow, okRows, scoreOf}
 use Rattle.chart.specs.Laws.Times.{infinity, time-fits}
-use Rattle.chart.specs.Laws.Notes.{length-notesOf}
+use Rattle.chart.specs.Laws.Notes.{length-notesOf, notes-at}
 
 -- the times of a note that may stand in a chart
 pub note-fits : (c l : ℕ) (n : Note) → okNote c l n ≡ true → (n .start < infinity) × (n .duration < infinity)
@@ -88,3 +89,58 @@ module _ (columns last count i : ℕ) (s : List ℕ) (more : i < count) where
   pub row-note : okNote columns last (noteOf (drop (8 + 17 * i) s)) ≡ false → okRows columns last (count - i) (drop (8 + 17 * i) s) ≡ false
   unfolding okRow
   row-note bad = from-row ∙ rw (bad, and-false (eqb (getD (drop (8 + 17 * i) s) 0 0 % 8) 0))
+
+-- ---- what an accepted chart has
+
+pub read-score : (s : List ℕ) (c : Score) → decode s ≡ some c → (okChart s ≡ true) × (scoreOf s ≡ c)
+unfolding decode
+read-score s c e = by-test (okChart s) refl
+  where
+    by-test : (t : Bool) → okChart s ≡ t → (okChart s ≡ true) × (scoreOf s ≡ c)
+    by-test true ok = (ok, Option·some-injective (scoreOf s) c (rw ok at e))
+    by-test false bad = absurd (let z : _≡_ {A = Option Score} none (some c) = rw bad at e in let y : _≡_ {A = ℕ} 0 1 = cc in omega arith)
+
+rows-notes : (c l k : ℕ) (s : List ℕ) → okRows c l k s ≡ true → okNotes c l (notesOf k s) ≡ true
+unfolding okRows okRow okNotes notesOf
+rows-notes c l zero s ok = refl
+rows-notes c l (suc k) s ok =
+    let here = both (okRow c l s) (okRows c (noteOf s .start) k (drop 17 s)) ok in
+    let row = both (eqb (getD s 0 0 % 8) 0) (okNote c l (noteOf s)) (here .0) in
+    rw (row .1) (rows-notes c (noteOf s .start) k (drop 17 s) (here .1))
+
+-- its notes keep the rule
+pub notes-ok : (s : List ℕ) (c : Score) → decode s ≡ some c → okNotes (c .columns) 0 (c .notes) ≡ true
+unfolding okChart scoreOf
+notes-ok s c e =
+    let k = read-score s c e in
+    rw (← (k .1)) (rows-notes (columnsOf s) 0 (countOf s) (drop 8 s) (both (okHead s) (okRows (columnsOf s) 0 (countOf s) (drop 8 s)) (k .0) .1))
+
+-- and each is found at its index
+pub note-read : (s : List ℕ) (c : Score) → decode s ≡ some c → (i : ℕ) (d : Note) → i < length (c .notes) → noteIn s i ≡ some (getD (c .notes) i d)
+unfolding noteIn okChart scoreOf
+note-read s c e i d l =
+    let k = read-score s c e in
+    let notes : notesOf (countOf s) (drop 8 s) ≡ c .notes = ap (λ (t : Score). t .notes) (k .1) in
+    let below : i < countOf s = omega (arith, ap (λ (t : List Note). length t) notes, length-notesOf (countOf s) (drop 8 s)) in
+    let size = head-size s (both (okHead s) (okRows (columnsOf s) 0 (countOf s) (drop 8 s)) (k .0) .0) in
+    let room : 8 + 17 * i + 17 ≤ length s = omega arith in
+    rw (le-leb (8 + 17 * i + 17) (length s) room, ← notes, notes-at (countOf s) (drop 8 s) i d below, drop-drop (17 * i) 8 s)
+
+-- the times of each of its notes
+pub notes-times : (c l : ℕ) (ns : List Note) → okNotes c l ns ≡ true → (i : ℕ) (d : Note) → i < length ns → (getD ns i d .start < infinity) × (getD ns i d .duration < infinity)
+unfolding okNotes
+notes-times c l [] ok i d h = absurd (omega arith)
+notes-times c l (n ∷ ns) ok zero d h = note-fits c l n (both (okNote c l n) (okNotes c (n .start) ns) ok .0)
+notes-times c l (n ∷ ns) ok (suc i) d h = notes-times c (n .start) ns (both (okNote c l n) (okNotes c (n .start) ns) ok .1) i d (omega arith)
+
+-- the reader's numbers are those of the chart
+pub accepted-score : (o : Option Score) (columns notes draws : ℕ) → accepted columns notes draws ≡ readingOf o
+    → (c : Score) × ((o ≡ some c) × ((c .columns ≡ columns) × (length (c .notes) ≡ notes)))
+unfolding readingOf
+accepted-score none columns notes draws e = absurd (let y : _≡_ {A = ℕ} 0 1 = cc in omega arith)
+accepted-score (some c) columns notes draws e = (c, (refl, (cc, cc)))
+
+pub refused-none : (o : Option Score) (n : ℕ) → refused n ≡ readingOf o → o ≡ none
+unfolding readingOf
+refused-none none n e = refl
+refused-none (some c) n e = absurd (let y : _≡_ {A = ℕ} 0 1 = cc in omega arith)

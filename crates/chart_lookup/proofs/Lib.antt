@@ -1,0 +1,2 @@
+-- The claims on the lookups, proved.
+pub mod Claims
