@@ -133,13 +133,14 @@ int main(int count, char **words) {
     uint32_t allowance = count > 2 ? (uint32_t)strtoul(words[2], NULL, 10) : 1000000;
 
     uint64_t length;
-    uint32_t object, draws;
-    uint32_t refusal = sumopine_convert(record, record_len, chart, BYTES, allowance, &length, &object, &draws);
+    uint32_t object, draws, longest_search;
+    uint32_t refusal = sumopine_convert(record, record_len, chart, BYTES, allowance, &length, &object, &draws, &longest_search);
     if (refusal != 0) {
         printf("refused %" PRIu32 ", object %" PRIu32 ", draws %" PRIu32 "\n", refusal, object, draws);
         return 1;
     }
     if (print_chart((size_t)length) != 0) return 1;
+    printf("%" PRIu32 " draws, at most %" PRIu32 " in one search\n", draws, longest_search);
     if (count > 1) return 0;
     if (print_around((size_t)length) != 0) return 1;
     if (print_object() != 0) return 1;

@@ -2,8 +2,9 @@
  * chart buffer of known bytes, to see that those after the chart keep their values, and in one that was never written, so that valgrind sees
  * whether anything depends on what was lent.
  *     replay JOBS
- * The file is its jobs one after the other, numbers with the highest byte first: record length 32, record, buffer length 32, allowance 32,
- * number 8 (0: a chart). A chart adds its length 32 and its bytes; a refusal its object 32 and its draws 32. */
+ * The file is its jobs one after the other. A job is three parts, each behind its length in 32 bits: the record; six numbers of 32 bits,
+ * which are the buffer's length, the allowance, the answer's number (0: a chart), object, draws and longest search; and the chart. Numbers
+ * have their highest byte first. */
 #include <inttypes.h>
 #include <stdio.h>
 #include <stdlib.h>
@@ -13,16 +14,16 @@
 
 #define KNOWN 1
 
-/* A job, and how it ended: with a chart of `length` bytes, or refused at an object after so many draws. */
+/* A job, and how it ended: with a chart of `length` bytes or refused, at an object, after so many draws. */
 struct job {
     uint8_t *record, *chart;
     uint32_t record_len, chart_len, allowance;
-    uint32_t refusal, length, object, draws;
+    uint32_t refusal, length, object, draws, longest_search;
 };
 
-static uint32_t number(FILE *file, int bytes) {
+static uint32_t number(FILE *file) {
     uint32_t value = 0;
-    while (bytes-- > 0) value = value << 8 | (uint32_t)(fgetc(file) & 255);
+    for (int i = 0; i < 4; i++) value = value << 8 | (uint32_t)(fgetc(file) & 255);
     return value;
 }
 
@@ -37,18 +38,17 @@ static uint8_t *block(FILE *file, size_t length) {
 }
 
 static struct job read_job(FILE *file) {
-    struct job job = {.record_len = number(file, 4)};
+    struct job job = {.record_len = number(file)};
     job.record = block(file, job.record_len);
-    job.chart_len = number(file, 4);
-    job.allowance = number(file, 4);
-    job.refusal = number(file, 1);
-    if (job.refusal == 0) {
-        job.length = number(file, 4);
-        job.chart = block(file, job.length);
-    } else {
-        job.object = number(file, 4);
-        job.draws = number(file, 4);
-    }
+    number(file); /* the length of the numbers */
+    job.chart_len = number(file);
+    job.allowance = number(file);
+    job.refusal = number(file);
+    job.object = number(file);
+    job.draws = number(file);
+    job.longest_search = number(file);
+    job.length = number(file);
+    job.chart = block(file, job.length);
     return job;
 }
 
@@ -58,15 +58,16 @@ static int all(const uint8_t *bytes, size_t length, uint8_t value) {
     return 1;
 }
 
-/* Converts a job in a chart buffer; whether it ended as recorded. */
+/* Converts a job in a chart buffer; whether it ended as recorded, in every number and every byte of the chart. */
 static int converts(const struct job *job, uint8_t *chart) {
     uint64_t length;
-    uint32_t object, draws, columns, notes, made;
-    uint32_t refusal = sumopine_convert(job->record, job->record_len, chart, job->chart_len, job->allowance, &length, &object, &draws);
+    uint32_t object, draws, longest_search, columns, notes, made;
+    uint32_t refusal = sumopine_convert(job->record, job->record_len, chart, job->chart_len, job->allowance, &length, &object, &draws, &longest_search);
     if (refusal != job->refusal || length != job->length || object != job->object) return 0;
-    if (refusal != 0) return draws == job->draws && all(chart, job->chart_len, 0);
+    if (draws != job->draws || longest_search != job->longest_search) return 0;
+    if (refusal != 0) return all(chart, job->chart_len, 0);
     if (memcmp(chart, job->chart, job->length) != 0) return 0;
-    return sumopine_read_chart(chart, job->length, &columns, &notes, &made) == 0;
+    return sumopine_read_chart(chart, job->length, &columns, &notes, &made) == 0 && draws == made;
 }
 
 /* Whether a job ends as recorded whatever it was lent. */

@@ -34,6 +34,7 @@ enum {
     SUMOPINE_NO_DRAW_LEFT = 12,
     SUMOPINE_COLUMNS_OR_PREVIOUS = 13,
     SUMOPINE_BROKEN_CHART = 14,
+    SUMOPINE_LONG_SEARCH = 16,
     SUMOPINE_TIMES = 17,
     SUMOPINE_COLUMN_OFF_DECK = 18,
     SUMOPINE_LIST_TOO_SHORT = 19,
@@ -43,15 +44,17 @@ enum {
 
 /* Converts a job record, with at most `allowance` draws, into a chart at the start of the chart buffer.
  *
- * Returns   *length            *object             *draws          the chart buffer
- * 0         the chart's bytes  0                   0               the chart; later bytes keep their values
- * 1 to 12   0                  the object's index  draws so far    all zero
+ * Returns      *length            *object             *draws               *longest_search               the chart buffer
+ * 0            the chart's bytes  0                   the draws made       the most draws of one search  the chart; later bytes keep their values
+ * 1 to 12, 16  0                  the object's index  the draws made       0                             all zero
  *
  * The object's index counts from 0, and is 0 where the record is refused (1 to 7) or the buffer is under 8 bytes (11). 9 and 10 are never
- * returned: no song comes to them, only `sumopine_object` with a previous pattern of the caller's making. A chart has its draws in its header,
- * which `sumopine_read_chart` gives. The record is only read. */
+ * returned: no song comes to them, only `sumopine_object` with a previous pattern of the caller's making. The record is only read.
+ *
+ * A column search may make 4,096 draws. Where it needs one more, 16 is returned, also where the allowance ends at that draw. Its draws are
+ * those made inside it: none where it takes its first column or steps, and not the draw that gave it its first column. */
 uint32_t sumopine_convert(const uint8_t *record, size_t record_len, uint8_t *chart, size_t chart_len, uint32_t allowance,
-                          uint64_t *length, uint32_t *object, uint32_t *draws);
+                          uint64_t *length, uint32_t *object, uint32_t *draws, uint32_t *longest_search);
 
 /* Reads a chart of exactly `chart_len` bytes and checks all of it.
  *
@@ -124,12 +127,13 @@ enum { SUMOPINE_CIRCLE = 0, SUMOPINE_SLIDER = 1, SUMOPINE_SPINNER = 2, SUMOPINE_
  *
  * A flag is set where it is not 0. A float may be anything, also a NaN: what is out of its range is refused. A kind above 3 is refused by 6.
  *
- * Returns   *count           *mask     *last                *stair    *draws     the state      the notes buffer
- * 0         number of notes  new mask  the new last column  0 or 1    the draws  the new state  the notes; later bytes keep their values
- * 4 to 13   0                0         0                    0         0          as lent        as lent
+ * Returns       *count           *mask     *last                *stair    *draws     the state      the notes buffer
+ * 0             number of notes  new mask  the new last column  0 or 1    the draws  the new state  the notes; later bytes keep their values
+ * 4 to 13, 16   0                0         0                    0         0          as lent        as lent
  *
  * The checks are made in this order: 13 for columns, mask and last column, 4 for difficulty and multiplier, 5 for beat length and velocity,
- * and 6 for the object, the previous position and time and the density. Then come 8, 10, 9 and 12 as reached, and 11 for the notes buffer. */
+ * and 6 for the object, the previous position and time and the density. Then come 8, 10, 9, 16 and 12 as reached, and 11 for the notes
+ * buffer. */
 uint32_t sumopine_object(double difficulty, double multiplier, double beat, double velocity, uint32_t kiai, double density,
                          double previous_time, float previous_x, float previous_y, uint16_t previous_mask, uint8_t previous_last,
                          uint32_t previous_stair, uint8_t columns, float x, float y, double start, uint8_t sound, uint32_t kind,

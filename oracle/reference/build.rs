@@ -62,6 +62,14 @@ mod util;
 
 #[allow(dead_code, unused_imports, reason = "the Rust holds more than conversion")]
 mod mania {
+    // The only `assert!` of the conversion stands in each column search, after its first column is found
+    // not valid and before it draws. What it binds lives until the search returns.
+    macro_rules! assert {
+        ($has_valid_column:expr) => {
+            let _search = crate::util::random::osu::Search::begin($has_valid_column);
+        };
+    }
+
     pub mod convert {
         include!("{rust}/mania/convert/mod.rs");
 

@@ -1,15 +1,16 @@
 -- The bench table's rows marked M, and the small examples of the refusals that the rules give, computed. `double a b` is the f64 nearest to
 -- a / b. Assumes nothing.
-use mathlib.Core.Path.{_≡_, refl}
-use Prim.Native.Nat.{ℕ, _^_}
+use mathlib.Core.Path.{_≡_, refl, ap, _∙_}
+use Prim.Native.Nat.{ℕ, zero, suc, _^_}
 use mathlib.Core.Bool.{true, false}
 use mathlib.Core.List.{List, [], _∷_, _++_}
 use lib.IntN.{pos}
 use lib.Ieee.{Float, binary64, round}
 use lib.ListN.{replicate}
 use Rattle.rules.specs.Rule.{ended, refused, spent, run}
-use Rattle.rules.specs.Refusal.{lateEnd, noColumn, offDeck, tooShort}
-use Rattle.random.specs.Generator.{next, low, seeded, between}
+use Rattle.rules.specs.Refusal.{lateEnd, noColumn, offDeck, tooShort, ObjectRule}
+use Rattle.random.specs.Generator.{twisted, mixed, next, low, values, seeded, between}
+use Rattle.random.specs.declared.Random.{Random}
 use Rattle.random.specs.Rows as Rows
 use Rattle.floats.specs.Whole.{whole}
 use Rattle.floats.specs.declared.Way.the-variants.{Even}
@@ -27,13 +28,14 @@ use Rattle.mania.specs.declared.Note.{Note}
 use Rattle.mania.specs.declared.HitObjectPatternGenerator.{HitObjectPatternGenerator}
 use Rattle.mania.specs.Steps.{single, double}
 use Rattle.mania.specs.PatternType.{reverse}
-use Rattle.mania.specs.Made.{circle}
+use Rattle.mania.specs.Made.{Made, circle}
 use Rattle.mania.specs.EndTimeObject.{lasting, endNote}
 use Rattle.mania.specs.HitObject.{generateCore}
 use Rattle.mania.specs.PathObject.{startTime, endTime, spanLength}
 use Rattle.model.specs.Song.{Song}
 use Rattle.mania.specs.Convert.{at, seed, targetColumns, convert}
-use Rattle.mania.specs.Single.{withRoom, entryRefusal}
+use Rattle.mania.specs.Single.{Single, withRoom, entryRefusal, singleObject}
+use Rattle.mania.specs.Single as Single
 use Rattle.mania.specs.Chart.{arranged, inWalkOrder, encode}
 use Rattle.mania.proofs.Computing.{computing}
 
@@ -221,3 +223,39 @@ refusal-12 = refl
 refusal-13 : entryRefusal facts (previous 16 4 Up) 4 (objectOf (double 0 1) 0 Circle) ≡ 13
 unfolding computing
 refusal-13 = refl
+
+-- 16: from the state of four zeros every value is 0, which is column 0, and column 0 is taken. The first column is drawn before the search; after 4,096
+-- draws more the search needs one beyond its limit
+abbrev zeros : Random
+zeros = record { x = 0; y = 0; z = 0; w = 0 }
+
+-- hold with plain sound, 4 columns, mask bit 0
+abbrev stuck : ℕ → Single
+stuck allowance = singleObject facts (previous 1 0 Up) 4 (objectOf (double 0 1) 0 (Hold (double 300 1))) zeros allowance (165 ∷ [])
+
+next-zero : next zeros ≡ zeros
+unfolding next twisted mixed
+next-zero = refl
+
+zero-values : (n : ℕ) → values n zeros ≡ replicate n 0
+unfolding values low
+zero-values zero = refl
+zero-values (suc n) = ap {B = List ℕ} (λ vs. low (next zeros) ∷ vs) (ap (values n) next-zero ∙ zero-values n) ∙ ap {B = List ℕ} (λ s. low s ∷ replicate n 0) next-zero
+
+-- the object's rule on values
+abbrev rule : ObjectRule Made
+rule = withRoom facts (previous 1 0 Up) 4 (objectOf (double 0 1) 0 (Hold (double 300 1))) 1
+
+on-zeros : (a : ℕ) → stuck a ≡ Single.ending zeros (165 ∷ []) (run rule (replicate a 0))
+unfolding computing
+on-zeros a = ap (λ (vs : List ℕ). Single.ending zeros (165 ∷ []) (run rule vs)) (zero-values a)
+
+-- after 4,097 draws 16 is tested before 12: the number and the state that was lent, and nothing is written
+refusal-16 : stuck 4097 ≡ Single.refusing 16 zeros (165 ∷ [])
+unfolding computing
+refusal-16 = on-zeros 4097
+
+-- with one draw less it is 12
+refusal-12-search : stuck 4096 ≡ Single.refusing 12 zeros (165 ∷ [])
+unfolding computing
+refusal-12-search = on-zeros 4096

@@ -23,8 +23,8 @@ module _ (bytes buffer made : List ℕ) (a : ℕ) (r s : JobEnd) (e : jobEnd mad
   printed n before after p = subst (λ (j : Job). (n ≡ length (jobText j)) × (after ≡ splice before 0 (jobText j))) ended p
 
 -- a chart is no longer than the buffer
-pub chart-fits : (bytes buffer made : List ℕ) (a n : ℕ) (r : JobEnd) → jobEnd made r ≡ job bytes buffer a → r ≡ J.Chart n → n ≤ length made
-chart-fits bytes buffer made a n r e h =
-    let q = ended bytes buffer made a r (J.Chart n) e h in
-    let room = reads bytes buffer .room a n (ap (λ (j : Job). j .answer) (sym q)) in
+pub chart-fits : (bytes buffer made : List ℕ) (a n g : ℕ) (r : JobEnd) → jobEnd made r ≡ job bytes buffer a → r ≡ J.Chart n g → n ≤ length made
+chart-fits bytes buffer made a n g r e h =
+    let q = ended bytes buffer made a r (J.Chart n g) e h in
+    let room = reads bytes buffer .room a n g (ap (λ (j : Job). j .answer) (sym q)) in
     omega (arith, room .0, room .1, ap (λ (j : Job). length (j .chart)) q)

@@ -6,7 +6,7 @@ use Rattle.chart_text.specs.Text.{text, refusalLine}
 use Rattle.mania.specs.Job.{Answer, Job, accepted, refusal}
 
 abbrev pub answerText : Answer → List ℕ → List ℕ
-answerText (accepted n) chart = text (take n chart)
+answerText (accepted n longest) chart = text (take n chart)
 answerText (refusal r i d) chart = refusalLine r i d
 
 abbrev pub jobText : Job → List ℕ

@@ -19,7 +19,7 @@ fn answer(bytes: &[u8], chart: &mut [u8], text: &mut [u8]) -> usize
     ensures { λ _. ⌜ now (text .exit) ≡ splice (now (text .entry)) 0 (jobText (job (now (bytes .entry)) (now (chart .entry)) 1000000)) ⌝ }
 {
     match convert(bytes, chart, ALLOWANCE) {
-        JobEnd::Chart(size) => chart_text::put_chart(&chart[..size], text),
+        JobEnd::Chart(size, longest) => chart_text::put_chart(&chart[..size], text),
         JobEnd::Refused(number, object, draws) => {
             chart_text::put_refusal_line(text, 0, number as u32, object, draws)
         }

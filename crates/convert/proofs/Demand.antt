@@ -14,15 +14,15 @@ use Rattle.convert.specs.declared.JobEnd.the-variants as J
 
 -- the answer that means a job's
 abbrev endOf : Answer → JobEnd
-endOf (accepted n) = J.Chart n
+endOf (accepted n g) = J.Chart n g
 endOf (refusal r i n) = J.Refused r i n
 
 end-of : (x : List ℕ) (r : JobEnd) → endOf (jobEnd x r .answer) ≡ r
-end-of x (J.Chart n) = refl
+end-of x (J.Chart n g) = refl
 end-of x (J.Refused r i n) = refl
 
 chart-of : (x : List ℕ) (r : JobEnd) → jobEnd x r .chart ≡ x
-chart-of x (J.Chart n) = refl
+chart-of x (J.Chart n g) = refl
 chart-of x (J.Refused r i n) = refl
 
 module _ (bytes buffer : List ℕ) where
@@ -58,6 +58,8 @@ module _ (bytes buffer : List ℕ) where
             let h = d .below a b (other a r x e o) l in
             (h .0, h .1, found b s y (refusal 12 (h .0) (h .1)) f (h .2));
         same = λ a b r s x y e f o l. alike r s x y (e ∙ sym (d .same a b (other a r x e o) l) ∙ sym f);
-        deck = λ a n x e. d .deck a n (answer a (J.Chart n) x e);
-        lanes = λ a n x e. d .lanes a n (answer a (J.Chart n) x e);
+        longest = λ a n g x e. d .longest a n g (answer a (J.Chart n g) x e);
+        divided = d .divided;
+        deck = λ a n g x e. d .deck a n g (answer a (J.Chart n g) x e);
+        lanes = λ a n g x e. d .lanes a n g (answer a (J.Chart n g) x e);
       }

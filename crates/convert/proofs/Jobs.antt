@@ -8,7 +8,7 @@ use borrow.Author.Tests.{le-ltb, lt-ltb}
 use Rattle.rules.specs.Rule.{ended}
 use Rattle.rules.specs.Refusal.{number}
 use Rattle.random.specs.Generator.{seeded}
-use Rattle.random.specs.Play.{found, refused, play}
+use Rattle.random.specs.Play.{found, refused, tallied, play}
 use Rattle.random.specs.declared.Draws.{Draws}
 use Rattle.random.specs.Laws.Allowance.{found-run, refused-run}
 use Rattle.record.specs.Record.{parse, accepted, songOf}
@@ -49,7 +49,7 @@ module _ (bytes buffer : List ℕ) (a : ℕ) (parsed : parse bytes ≡ accepted 
   S = songOf bytes
 
   abbrev start : Draws
-  start = record { random = seeded (seed (S .settings)); left = a }
+  start = tallied a 0 (seeded (seed (S .settings)))
 
   job-is : job bytes buffer a ≡ OfSong.job S buffer a
   unfolding job jobOf
@@ -66,13 +66,13 @@ module _ (bytes buffer : List ℕ) (a : ℕ) (parsed : parse bytes ≡ accepted 
       let none : onWalk (convert S (length buffer)) start ≡ refused (stop 0 11) start = rw (lt-ltb (length buffer) 8 h) in
       ap (λ (n : ℕ). refusing 11 0 n buffer) (sym (sub-self a)) ∙ sym (job-is ∙ job-stopped S buffer a (stop 0 11) start none)
 
-  pub stopped-job : 8 ≤ length buffer → (n i : ℕ) (e : Draws) → songRule bytes (length buffer) start ≡ refused (stop i n) e → refusing n i (a - e .left) buffer ≡ job bytes buffer a
+  pub stopped-job : 8 ≤ length buffer → (n i : ℕ) (e : Draws) → songRule bytes (length buffer) start ≡ refused (stop i n) e → refusing n i (a - e .tally .left) buffer ≡ job bytes buffer a
   stopped-job h n i e k = sym (job-is ∙ job-stopped S buffer a (stop i n) e (walked h ∙ k))
 
-  pub found-left : (room : ℕ) (nss : List (List Note)) (e : Draws) → songRule bytes room start ≡ found nss e → e .left ≤ a
+  pub found-left : (room : ℕ) (nss : List (List Note)) (e : Draws) → songRule bytes room start ≡ found nss e → e .tally .left ≤ a
   found-left room nss e k = found-run spentAt refusedAt _ start nss e k .1
 
-  pub refused-left : (room : ℕ) (x : Stop) (e : Draws) → songRule bytes room start ≡ refused x e → e .left ≤ a
+  pub refused-left : (room : ℕ) (x : Stop) (e : Draws) → songRule bytes room start ≡ refused x e → e .tally .left ≤ a
   refused-left room x e k = refused-run spentAt refusedAt _ start {B = Unit {0}} (λ o. tt) (λ y n. tt) (λ p n. refl) (λ r n. refl) x e k .1
 
   module _ (h : 8 ≤ length buffer) (exit : List ℕ) (notes : ℕ) (e : Draws) (w : Written (songRule bytes (length buffer) start) buffer exit notes e) where
@@ -83,13 +83,13 @@ module _ (bytes buffer : List ℕ) (a : ℕ) (parsed : parse bytes ≡ accepted 
     ps = map patternOf ns
 
     abbrev n : ℕ
-    n = a - e .left
+    n = a - e .tally .left
 
     ends : under S buffer a ≡ ended (w .nss) n
     unfolding under
     ends = found-run spentAt refusedAt (convert S (length buffer)) start (w .nss) e (walked h ∙ w .says) .0
 
-    made : OfSong.job S buffer a ≡ ending (columnsOf S) buffer (ended (w .nss) n)
+    made : OfSong.job S buffer a ≡ ending (columnsOf S) buffer (e .tally .longest) (ended (w .nss) n)
     made = job-made S buffer a (w .nss) e (walked h ∙ w .says)
 
     bytes-are : encode (columnsOf S) n (arranged [] ns) ≡ Bytes.encode (columnsOf S) n (Order.arranged [] ps)
@@ -105,7 +105,7 @@ module _ (bytes buffer : List ℕ) (a : ℕ) (parsed : parse bytes ≡ accepted 
         ∙ ap (λ (k : ℕ). 8 + 17 * k) (length-arranged [] ps ∙ zero-add (length ps) ∙ counted)
 
     pub made-job : (columns size : ℕ) (last : List ℕ) → columns ≡ columnsOf S → size ≡ 8 + 17 * notes
-        → last ≡ splice exit 0 (Bytes.encode columns n (Order.arranged [] (notesOf notes (drop 8 exit)))) → jobEnd last (J.Chart size) ≡ job bytes buffer a
+        → last ≡ splice exit 0 (Bytes.encode columns n (Order.arranged [] (notesOf notes (drop 8 exit)))) → jobEnd last (J.Chart size (e .tally .longest)) ≡ job bytes buffer a
     unfolding ending body Bytes.body
     made-job columns size last c z f =
         let room : 8 + 17 * length ps ≤ length buffer = subst (λ (k : ℕ). 8 + 17 * k ≤ length buffer) (sym counted) (w .room) in
@@ -114,5 +114,5 @@ module _ (bytes buffer : List ℕ) (a : ℕ) (parsed : parse bytes ≡ accepted 
         ∙ finished buffer exit (columnsOf S) n ps (w .written) room (fits-all bytes buffer S parsed a n (w .nss) ends)
         ∙ splice-start buffer (Bytes.encode (columnsOf S) n (Order.arranged [] ps))
         ∙ ap (λ (v : List ℕ). written v buffer) (sym bytes-are) in
-        ap₂ {C = Job} (λ (k : ℕ) (v : List ℕ). record { answer = OfSong.accepted k; chart = v }) (z ∙ sym long) (f ∙ whole)
+        ap₂ {C = Job} (λ (k : ℕ) (v : List ℕ). record { answer = OfSong.accepted k (e .tally .longest); chart = v }) (z ∙ sym long) (f ∙ whole)
         ∙ sym (job-is ∙ made)

@@ -1,10 +1,11 @@
 -- Demands 1 and 3 once more, of what `convert` answers. Assumes nothing.
 use mathlib.Core.Path.{_≡_}
-use Prim.Native.Nat.{ℕ, _≤_, _<_}
+use Prim.Native.Nat.{ℕ, _+_, _≤_, _<_}
 use mathlib.Core.List.{List}
 use lib.ListN.{length, replicate}
 use Rattle.mania.specs.Demand.{Each, Lanes, OnDeck}
-use Rattle.job.specs.Job.{columns, draws, notes, job}
+use Rattle.rules.specs.Ledger.{sum, largest}
+use Rattle.job.specs.Job.{columns, draws, ledger, notes, job}
 use Rattle.job.specs.Refusals.{Condition}
 use Rattle.convert.specs.Ends.{jobEnd}
 use Rattle.convert.specs.declared.JobEnd.{JobEnd}
@@ -33,7 +34,10 @@ pub record Demand (bytes buffer : List ℕ) : Type 0 where
   pub below : (a b : ℕ) (r s : JobEnd) (x y : List ℕ) → Answers bytes buffer a r x → Answers bytes buffer b s y → Other r → b < draws bytes buffer a → Spent s
   -- and from them on it has the same answer and leaves the same bytes
   pub same : (a b : ℕ) (r s : JobEnd) (x y : List ℕ) → Answers bytes buffer a r x → Answers bytes buffer b s y → Other r → draws bytes buffer a ≤ b → (r ≡ s) × (x ≡ y)
+  -- a chart comes with the most draws of one search, and each draw is one of a search or outside every search
+  pub longest : (a n g : ℕ) (x : List ℕ) → Answers bytes buffer a (J.Chart n g) x → g ≡ largest (ledger bytes buffer a .searches)
+  pub divided : (a : ℕ) → sum (ledger bytes buffer a .searches) + ledger bytes buffer a .outside ≡ draws bytes buffer a
   -- of a chart, each note lies on the deck, and no two notes made from one object share a lane
-  pub deck : (a n : ℕ) (x : List ℕ) → Answers bytes buffer a (J.Chart n) x
+  pub deck : (a n g : ℕ) (x : List ℕ) → Answers bytes buffer a (J.Chart n g) x
       → (1 ≤ columns bytes) × (columns bytes ≤ 9) × Each (Each (OnDeck (columns bytes))) (notes bytes buffer a)
-  pub lanes : (a n : ℕ) (x : List ℕ) → Answers bytes buffer a (J.Chart n) x → Each Lanes (notes bytes buffer a)
+  pub lanes : (a n g : ℕ) (x : List ℕ) → Answers bytes buffer a (J.Chart n g) x → Each Lanes (notes bytes buffer a)

@@ -18,7 +18,7 @@ use Rattle.convert.specs.declared.JobEnd.the-variants as J
 
 -- a job's end
 abbrev pub jobEnd : List ℕ → JobEnd → Job
-jobEnd chart (J.Chart length) = record { answer = accepted length; chart = chart }
+jobEnd chart (J.Chart length longest) = record { answer = accepted length longest; chart = chart }
 jobEnd chart (J.Refused n i d) = record { answer = refusal n i d; chart = chart }
 
 -- what the walk takes is the record's song's

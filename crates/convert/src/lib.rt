@@ -8,14 +8,15 @@ ghost use Rattle.mania.specs.Job.{refusing};
 ghost use Rattle.walk.specs.Steps.{Ends};
 ghost use Rattle.convert.specs.Ends.{jobEnd, OfSummary, songRule};
 use random::Draws;
+use random::Tally;
 use record::Checked;
 use record::Summary;
 use walk::Song;
 use walk::WalkEnd;
 
-// How a job ends: with a chart of so many bytes, or with a refusal's number, the object's index and the draws so far.
+// How a job ends: with a chart of so many bytes and the most draws of one search, or with a refusal's number, the object's index and the draws so far.
 pub enum JobEnd {
-    Chart(usize),
+    Chart(usize, u32),
     Refused(u8, u32, u32),
 }
 
@@ -98,16 +99,21 @@ fn convert_song(bytes: &[u8], m: Summary, chart: &mut [u8], allowance: u32) -> J
     let g = song_of(bytes, m);
     let settings = m.settings;
     let random = random::from_seed(settings::seed(settings));
-    let d = Draws {
-        random,
+    let tally = Tally {
         left: allowance,
+        longest: 0,
     };
+    let d = Draws { random, tally };
     match walk_part(bytes, m, chart, g, d) {
         WalkEnd::Made(notes, e) => {
-            let length = chart_writer::finish(chart, g.columns, notes, allowance - e.left);
-            JobEnd::Chart(length)
+            let after = e.tally;
+            let length = chart_writer::finish(chart, g.columns, notes, allowance - after.left);
+            JobEnd::Chart(length, after.longest)
         }
-        WalkEnd::Refused(n, i, e) => refused(chart, n, i, allowance - e.left),
+        WalkEnd::Refused(n, i, e) => {
+            let after = e.tally;
+            refused(chart, n, i, allowance - after.left)
+        }
     }
 }
 

@@ -7,5 +7,5 @@ use Rattle.generators.specs.declared.LentEnd.the-variants as L
 
 -- with the state that it left
 abbrev pub whole : Random → LentEnd → ObjectEnd
-whole r (L.Made p s n) = E.Made p s (record { random = r; left = n })
-whole r (L.Refused x n) = E.Refused x (record { random = r; left = n })
+whole r (L.Made p s n) = E.Made p s (record { random = r; tally = n })
+whole r (L.Refused x n) = E.Refused x (record { random = r; tally = n })

@@ -16,4 +16,4 @@ Asks a n = (0 < a .g .columns) × (a .g .columns ≤ 9) × (a .g .last < a .g .c
 
 -- from the state r the rule ends at the state s with e, and the words are as `exit`
 abbrev pub Ends : Random → Ask → List ℕ → Random → LentEnd → Type 0
-Ends r a exit s e = Generates (circleAt (a .g .start)) exit (on (generate (a .g)) (record { random = r; left = a .left })) 14 (whole s e)
+Ends r a exit s e = Generates (circleAt (a .g .start)) exit (on (generate (a .g)) (record { random = r; tally = a .tally })) 14 (whole s e)

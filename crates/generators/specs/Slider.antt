@@ -17,4 +17,4 @@ Asks a words spare = Ready (a .g) spare × (2050 ≤ words)
 
 -- from the state r the rule ends at the state s with e, and the words are as `exit`
 abbrev pub Ends : Random → Ask → List ℕ → Random → LentEnd → Type 0
-Ends r a exit s e = Generates noteOfWord exit (on (generate (a .g)) (record { random = r; left = a .left })) 2050 (whole s e)
+Ends r a exit s e = Generates noteOfWord exit (on (generate (a .g)) (record { random = r; tally = a .tally })) 2050 (whole s e)

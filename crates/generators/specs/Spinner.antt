@@ -16,4 +16,4 @@ Asks a n = (0 < a .columns) × (a .columns ≤ 9) × (0 < n)
 
 -- from the state r the rule ends at the state s with e, and the words are as `exit`
 abbrev pub Ends : Random → Ask → List ℕ → Random → LentEnd → Type 0
-Ends r a exit s e = Generates (endNoteAt (a .o) (a .duration)) exit (on (generate (a .v) (a .columns) (a .o) (a .duration)) (record { random = r; left = a .left })) 1 (whole s e)
+Ends r a exit s e = Generates (endNoteAt (a .o) (a .duration)) exit (on (generate (a .v) (a .columns) (a .o) (a .duration)) (record { random = r; tally = a .tally })) 1 (whole s e)

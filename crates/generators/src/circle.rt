@@ -13,10 +13,11 @@ use mania::HitObjectPatternGenerator;
 use pattern::ObjectEnd;
 use random::Draws;
 use random::Random;
+use random::Tally;
 
-// What the generator is asked: how many draws are left, and what the pattern is made from.
+// What the generator is asked: the tally of the draws, and what the pattern is made from.
 pub struct Ask {
-    pub left: u32,
+    pub tally: Tally,
     pub g: HitObjectPatternGenerator,
 }
 
@@ -25,10 +26,8 @@ fn take_turn(random: Random, ask: Ask, words: &mut [u64], spare: &mut [u64]) -> 
     requires { ⌜ Asks ask (length (now words)) ⌝ }
     ensures { λ r. ⌜ Ends random ask (now (words .exit)) (r .random) (r .end) ⌝ }
 {
-    let d = Draws {
-        random,
-        left: ask.left,
-    };
+    let tally = ask.tally;
+    let d = Draws { random, tally };
     let g = ask.g;
     let end = hit_object::generate_by_value(d, g, words);
     crate::turn_of(end)
@@ -63,7 +62,8 @@ pub fn generate_owned(
     requires { ⌜ (0 < g .columns) × (g .columns ≤ 9) × (g .last < g .columns) × (16 ≤ length (now words)) ⌝ }
     ensures { λ r. ⌜ Generates (circleAt (g .start)) (now (words .exit)) (on (Rule.generate g) d) 14 r ⌝ }
 {
-    let ask = Ask { left: d.left, g };
+    let tally = d.tally;
+    let ask = Ask { tally, g };
     let random = d.random;
     let t = lend(random, ask, words, spare);
     crate::object_end(t)

@@ -7,15 +7,16 @@ use pattern::ObjectEnd;
 use pattern::Pattern;
 use random::Draws;
 use random::Random;
+use random::Tally;
 
 pub mod circle;
 pub mod slider;
 pub mod spinner;
 
-// What a generator gives where the state is lent, and altered there: of the draws after it only how many are left.
+// What a generator gives where the state is lent, and altered there: of the draws after it only the tally.
 pub enum LentEnd {
-    Made(Pattern, Stair, u32),
-    Refused(u8, u32),
+    Made(Pattern, Stair, Tally),
+    Refused(u8, Tally),
 }
 
 // The state that a generator left, and what it gives.
@@ -31,18 +32,18 @@ pub fn turn_of(e: ObjectEnd) -> Turn
     match e {
         ObjectEnd::Made(p, s, d) => {
             let random = d.random;
-            let left = d.left;
+            let tally = d.tally;
             Turn {
                 random,
-                end: LentEnd::Made(p, s, left),
+                end: LentEnd::Made(p, s, tally),
             }
         }
         ObjectEnd::Refused(n, d) => {
             let random = d.random;
-            let left = d.left;
+            let tally = d.tally;
             Turn {
                 random,
-                end: LentEnd::Refused(n, left),
+                end: LentEnd::Refused(n, tally),
             }
         }
     }
@@ -55,7 +56,7 @@ pub fn object_end(t: Turn) -> ObjectEnd
     let random = t.random;
     let end = t.end;
     match end {
-        LentEnd::Made(p, s, left) => ObjectEnd::Made(p, s, Draws { random, left }),
-        LentEnd::Refused(n, left) => ObjectEnd::Refused(n, Draws { random, left }),
+        LentEnd::Made(p, s, tally) => ObjectEnd::Made(p, s, Draws { random, tally }),
+        LentEnd::Refused(n, tally) => ObjectEnd::Refused(n, Draws { random, tally }),
     }
 }

@@ -14,10 +14,11 @@ use mania::PathObjectPatternGenerator;
 use pattern::ObjectEnd;
 use random::Draws;
 use random::Random;
+use random::Tally;
 
-// What the generator is asked: how many draws are left, and what the patterns are made from.
+// What the generator is asked: the tally of the draws, and what the patterns are made from.
 pub struct Ask {
-    pub left: u32,
+    pub tally: Tally,
     pub g: PathObjectPatternGenerator,
 }
 
@@ -26,10 +27,8 @@ fn take_turn(random: Random, ask: Ask, words: &mut [u64], spare: &mut [u64]) -> 
     requires { ⌜ Asks ask (length (now words)) (length (now spare)) ⌝ }
     ensures { λ r. ⌜ Ends random ask (now (words .exit)) (r .random) (r .end) ⌝ }
 {
-    let d = Draws {
-        random,
-        left: ask.left,
-    };
+    let tally = ask.tally;
+    let d = Draws { random, tally };
     let g = ask.g;
     let end = path_object::generate_by_value(d, g, words, spare);
     crate::turn_of(end)
@@ -64,7 +63,8 @@ pub fn generate_owned(
     requires { ⌜ Ready g (length (now spare)) × (2050 ≤ length (now words)) ⌝ }
     ensures { λ r. ⌜ Generates noteOfWord (now (words .exit)) (on (Path.generate g) d) 2050 r ⌝ }
 {
-    let ask = Ask { left: d.left, g };
+    let tally = d.tally;
+    let ask = Ask { tally, g };
     let random = d.random;
     let t = lend(random, ask, words, spare);
     crate::object_end(t)

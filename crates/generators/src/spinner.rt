@@ -14,10 +14,11 @@ use model::Object;
 use pattern::ObjectEnd;
 use random::Draws;
 use random::Random;
+use random::Tally;
 
-// What the generator is asked: how many draws are left, and what the note is made from.
+// What the generator is asked: the tally of the draws, and what the note is made from.
 pub struct Ask {
-    pub left: u32,
+    pub tally: Tally,
     pub v: PrevValues,
     pub columns: u8,
     pub o: Object,
@@ -29,10 +30,8 @@ fn take_turn(random: Random, ask: Ask, words: &mut [u64], spare: &mut [u64]) -> 
     requires { ⌜ Asks ask (length (now words)) ⌝ }
     ensures { λ r. ⌜ Ends random ask (now (words .exit)) (r .random) (r .end) ⌝ }
 {
-    let d = Draws {
-        random,
-        left: ask.left,
-    };
+    let tally = ask.tally;
+    let d = Draws { random, tally };
     let v = ask.v;
     let o = ask.o;
     let end = end_time_object::generate_by_value(d, v, ask.columns, o, ask.duration, words);
@@ -71,8 +70,9 @@ pub fn generate_owned(
     requires { ⌜ (0 < columns) × (columns ≤ 9) × (0 < length (now words)) ⌝ }
     ensures { λ r. ⌜ Generates (endNoteAt o duration) (now (words .exit)) (on (Rule.generate v columns o duration) d) 1 r ⌝ }
 {
+    let tally = d.tally;
     let ask = Ask {
-        left: d.left,
+        tally,
         v,
         columns,
         o,

@@ -158,16 +158,16 @@ module _ (s buffer : List ℕ) (r : Song) (e : parse s ≡ accepted r) (a n : �
 
 -- ---- the job
 
-chart-of : (c : ℕ) (buffer : List ℕ) (o : Outcome ℕ AtObject (List (List Note))) (n : ℕ) → ending c buffer o .answer ≡ OfSong.accepted n
-    → (ending c buffer o .chart ≡ written (encode c (taken o) (arranged [] (inWalkOrder (notesIn o)))) buffer) × (n ≡ length (encode c (taken o) (arranged [] (inWalkOrder (notesIn o)))))
+chart-of : (c : ℕ) (buffer : List ℕ) (g : ℕ) (o : Outcome ℕ AtObject (List (List Note))) (n k : ℕ) → ending c buffer g o .answer ≡ OfSong.accepted n k
+    → (ending c buffer g o .chart ≡ written (encode c (taken o) (arranged [] (inWalkOrder (notesIn o)))) buffer) × (n ≡ length (encode c (taken o) (arranged [] (inWalkOrder (notesIn o)))))
 unfolding ending refusing taken notesIn
-chart-of c buffer (ended nss m) n e = (refl, sym (ap told e))
+chart-of c buffer g (ended nss m) n k e = (refl, sym (ap told e))
   where
     told : OfSong.Answer → ℕ
-    told (OfSong.accepted n) = n
+    told (OfSong.accepted n g) = n
     told (OfSong.refusal r i n) = 0
-chart-of c buffer (Rule.refused q m) n e = let z : _≡_ {A = ℕ} 1 0 = ap refuses e in absurd (omega arith)
-chart-of c buffer (Rule.spent q m) n e = let z : _≡_ {A = ℕ} 1 0 = ap refuses e in absurd (omega arith)
+chart-of c buffer g (Rule.refused q m) n k e = let z : _≡_ {A = ℕ} 1 0 = ap refuses e in absurd (omega arith)
+chart-of c buffer g (Rule.spent q m) n k e = let z : _≡_ {A = ℕ} 1 0 = ap refuses e in absurd (omega arith)
 
 take-written : (bytes buffer : List ℕ) → take (length bytes) (written bytes buffer) ≡ bytes
 unfolding written
@@ -187,16 +187,16 @@ record ReadsOf (c d : ℕ) (nss : List (List Note)) (buffer : List ℕ) (a n : �
   read : a < 2 ^ 32 → decode (Bytes.encode c d (Order.arranged [] (map patternOf (inWalkOrder nss))))
       ≡ some (record { columns = c; draws = d; notes = Order.arranged [] (map patternOf (inWalkOrder nss)) })
 
-reads-of : (s buffer : List ℕ) (p : Parsed) → parse s ≡ p → (a n : ℕ) → jobOf p buffer a .answer ≡ OfSong.accepted n
+reads-of : (s buffer : List ℕ) (p : Parsed) → parse s ≡ p → (a n g : ℕ) → jobOf p buffer a .answer ≡ OfSong.accepted n g
     → (jobOf p buffer a .chart ≡ written (Bytes.encode (columnsIn p) (drawsOf p buffer a) (Order.arranged [] (map patternOf (inWalkOrder (notesOf p buffer a))))) buffer)
     × ReadsOf (columnsIn p) (drawsOf p buffer a) (notesOf p buffer a) buffer a n
 unfolding jobOf columnsIn drawsOf notesOf encode refusing OfSong.job Draws.draws
-reads-of s buffer (refused m) e a n h = let z : _≡_ {A = ℕ} 1 0 = ap refuses h in absurd (omega arith)
-reads-of s buffer (accepted r) e a n h =
+reads-of s buffer (refused m) e a n g h = let z : _≡_ {A = ℕ} 1 0 = ap refuses h in absurd (omega arith)
+reads-of s buffer (accepted r) e a n g h =
     let c = columnsOf r in
     let o = under r buffer a in
-    let u : o ≡ ended (notesIn o) (taken o) = accepted-ended c buffer o n h in
-    let k = chart-of c buffer o n h in
+    let u : o ≡ ended (notesIn o) (taken o) = accepted-ended c buffer _ o n g h in
+    let k = chart-of c buffer _ o n g h in
     let order = in-order s buffer r e a (taken o) (notesIn o) u in (
       k .0 ∙ ap (λ (ns : List Patterns.Note). written (Bytes.encode c (taken o) ns) buffer) order,
       record {
@@ -213,14 +213,14 @@ pub reads : (s buffer : List ℕ) → Reads s buffer
 unfolding job columns draws notes chartNotes
 reads s buffer =
     record {
-      chart = λ a n h. reads-of s buffer (parse s) refl a n h .0;
-      long = λ a n h. reads-of s buffer (parse s) refl a n h .1 .long;
-      room = λ a n h.
-          let k = reads-of s buffer (parse s) refl a n h in
+      chart = λ a n g h. reads-of s buffer (parse s) refl a n g h .0;
+      long = λ a n g h. reads-of s buffer (parse s) refl a n g h .1 .long;
+      room = λ a n g h.
+          let k = reads-of s buffer (parse s) refl a n g h in
           let b : List ℕ = Bytes.encode (columns s) (draws s buffer a) (chartNotes s buffer a) in
           (subst (λ (i : ℕ). i ≤ length buffer) (sym (k .1 .long)) (k .1 .room), ap length (k .0) ∙ length-written b buffer (k .1 .room));
-      read = λ a n small h.
-          let k = reads-of s buffer (parse s) refl a n h in
+      read = λ a n g small h.
+          let k = reads-of s buffer (parse s) refl a n g h in
           let b : List ℕ = Bytes.encode (columns s) (draws s buffer a) (chartNotes s buffer a) in
           let taken-is : take n (job s buffer a .chart) ≡ b =
           ap (λ (i : ℕ). take i (job s buffer a .chart)) (k .1 .long) ∙ ap (take (length b)) (k .0) ∙ take-written b buffer in

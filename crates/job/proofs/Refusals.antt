@@ -1,28 +1,32 @@
 -- What is true where a job is refused. Assumes nothing.
-use mathlib.Core.Path.{_≡_, refl, sym, ap, _∙_}
+use mathlib.Core.Path.{_≡_, refl, sym, ap, _∙_, subst}
+use mathlib.Core.Logic.{_⊎_, inl, inr}
 use Prim.Native.Nat.{ℕ, _≤_}
 use native.Mathlib.Omega.{arith}
 use mathlib.Core.List.{List}
 use lib.ListN.{length, replicate}
 use Rattle.rules.specs.Rule.{Outcome, ended, spent}
 use Rattle.rules.specs.Rule as Rule
-use Rattle.rules.specs.Refusal.{Refusal, lateEnd, noColumn, offDeck, tooShort}
+use Rattle.rules.specs.Refusal.{Refusal, lateEnd, noColumn, offDeck, tooShort, longSearch}
 use Rattle.rules.specs.Refusal as Refusal
+use Rattle.rules.specs.Ledger.{Ledger}
+use Rattle.rules.specs.Limited.{lastOr}
 use Rattle.random.specs.Generator.{seeded}
 use Rattle.random.specs.Laws.Allowance.{lawful}
 use Rattle.model.specs.Song.{Song}
 use Rattle.mania.specs.declared.Note.{Note}
 use Rattle.mania.specs.Convert.{AtObject, at, seed, columnsOf, convert}
 use Rattle.mania.specs.Refusals.{InWalk}
-use Rattle.mania.specs.Job.{Answer, refusal, ending, refusing, under}
+use Rattle.mania.specs.Job.{Answer, refusal, ending, refusing, under, ledgerUnder}
 use Rattle.mania.specs.Job as OfSong
 use Rattle.mania.proofs.Eleven.{job-eleven}
+use Rattle.mania.proofs.Limits.{job-long}
 use Rattle.mania.proofs.Meets.{refused-meets}
 use Rattle.mania.proofs.Reach.{convert-ends, reasons}
 use Rattle.mania.proofs.Eight.{job-eight}
 use Rattle.mania.proofs.Demand.{few-columns}
 use Rattle.record.specs.Record.{Parsed, refused, accepted, parse}
-use Rattle.job.specs.Job.{jobOf, job}
+use Rattle.job.specs.Job.{jobOf, job, ledgerOf, ledger}
 use Rattle.job.specs.Refusals.{Condition, Refusals}
 use Rattle.job.specs.NeverBlocked.{NeverBlocked}
 use Rattle.job.proofs.Numbers.{accepted-none, refused-none, refused-number}
@@ -30,42 +34,62 @@ use Rattle.job.proofs.Numbers.{accepted-keys}
 use Rattle.job.proofs.Demand.{refuses, number, index, count}
 
 -- the numbers of the refusals of a walk
-numbered : (r : Refusal) → (8 ≤ Refusal.number r) × (Refusal.number r ≤ 11)
-numbered lateEnd = (omega arith, omega arith)
-numbered noColumn = (omega arith, omega arith)
-numbered offDeck = (omega arith, omega arith)
-numbered tooShort = (omega arith, omega arith)
+numbered : (r : Refusal) → (8 ≤ Refusal.number r) × ((Refusal.number r ≤ 11) ⊎ (Refusal.number r ≡ 16))
+numbered lateEnd = (omega arith, inl (omega arith))
+numbered noColumn = (omega arith, inl (omega arith))
+numbered offDeck = (omega arith, inl (omega arith))
+numbered tooShort = (omega arith, inl (omega arith))
+numbered longSearch = (omega arith, inr refl)
+
+not-12 : (n : ℕ) → (n ≤ 11) ⊎ (n ≡ 16) → n ≡ 12 → ⊥
+not-12 n (inl h) e = omega arith
+not-12 n (inr h) e = omega arith
+
+up-to : (n : ℕ) → (n ≤ 11) ⊎ (n ≡ 16) → (n ≤ 12) ⊎ (n ≡ 16)
+up-to n (inl h) = inl (omega arith)
+up-to n (inr h) = inr h
 
 is-late : (r : Refusal) → Refusal.number r ≡ 8 → r ≡ lateEnd
 is-late lateEnd e = refl
 is-late noColumn e = absurd (omega arith)
 is-late offDeck e = absurd (omega arith)
 is-late tooShort e = absurd (omega arith)
+is-late longSearch e = absurd (omega arith)
 
 is-blocked : (r : Refusal) → Refusal.number r ≡ 9 → r ≡ noColumn
 is-blocked lateEnd e = absurd (omega arith)
 is-blocked noColumn e = refl
 is-blocked offDeck e = absurd (omega arith)
 is-blocked tooShort e = absurd (omega arith)
+is-blocked longSearch e = absurd (omega arith)
 
 is-off : (r : Refusal) → Refusal.number r ≡ 10 → r ≡ offDeck
 is-off lateEnd e = absurd (omega arith)
 is-off noColumn e = absurd (omega arith)
 is-off offDeck e = refl
 is-off tooShort e = absurd (omega arith)
+is-off longSearch e = absurd (omega arith)
 
 is-short : (r : Refusal) → Refusal.number r ≡ 11 → r ≡ tooShort
 is-short lateEnd e = absurd (omega arith)
 is-short noColumn e = absurd (omega arith)
 is-short offDeck e = absurd (omega arith)
 is-short tooShort e = refl
+is-short longSearch e = absurd (omega arith)
+
+is-long : (r : Refusal) → Refusal.number r ≡ 16 → r ≡ longSearch
+is-long lateEnd e = absurd (omega arith)
+is-long noColumn e = absurd (omega arith)
+is-long offDeck e = absurd (omega arith)
+is-long tooShort e = absurd (omega arith)
+is-long longSearch e = refl
 
 -- an answer that refuses zeroes the buffer
-zeroed-of : (c : ℕ) (buffer : List ℕ) (o : Outcome ℕ AtObject (List (List Note))) (r i n : ℕ) → ending c buffer o .answer ≡ refusal r i n → ending c buffer o .chart ≡ replicate (length buffer) 0
+zeroed-of : (c : ℕ) (buffer : List ℕ) (g : ℕ) (o : Outcome ℕ AtObject (List (List Note))) (r i n : ℕ) → ending c buffer g o .answer ≡ refusal r i n → ending c buffer g o .chart ≡ replicate (length buffer) 0
 unfolding ending refusing
-zeroed-of c buffer (ended nss m) r i n e = let z : _≡_ {A = ℕ} 0 1 = ap refuses e in absurd (omega arith)
-zeroed-of c buffer (Rule.refused q m) r i n e = refl
-zeroed-of c buffer (spent q m) r i n e = refl
+zeroed-of c buffer g (ended nss m) r i n e = let z : _≡_ {A = ℕ} 0 1 = ap refuses e in absurd (omega arith)
+zeroed-of c buffer g (Rule.refused q m) r i n e = refl
+zeroed-of c buffer g (spent q m) r i n e = refl
 
 -- a refused outcome, from its answer
 outcome : (q : Refusal) (x : AtObject) (m r i n : ℕ) → refusal (Refusal.number (x .refusal)) (x .object) m ≡ refusal r i n → x .refusal ≡ q
@@ -77,30 +101,35 @@ module _ (bytes buffer : List ℕ) (s : Song) (p : parse bytes ≡ accepted s) (
   deck : columnsOf s ≤ 9
   deck = few-columns s (accepted-keys bytes s p)
 
-  by-outcome : (o : Outcome ℕ AtObject (List (List Note))) → under s buffer a ≡ o → ending (columnsOf s) buffer o .answer ≡ refusal r i n → Condition bytes buffer a r i n
+  ledger-is : ledger bytes buffer a ≡ ledgerUnder s buffer a
+  unfolding ledger ledgerOf
+  ledger-is = ap (λ (q : Parsed). ledgerOf q buffer a) p
+
+  by-outcome : (g : ℕ) (o : Outcome ℕ AtObject (List (List Note))) → under s buffer a ≡ o → ending (columnsOf s) buffer g o .answer ≡ refusal r i n → Condition bytes buffer a r i n
   unfolding ending refusing under
-  by-outcome (ended nss m) u e = let z : _≡_ {A = ℕ} 0 1 = ap refuses e in absurd (omega arith)
-  by-outcome (Rule.refused x m) u e =
+  by-outcome g (ended nss m) u e = let z : _≡_ {A = ℕ} 0 1 = ap refuses e in absurd (omega arith)
+  by-outcome g (Rule.refused x m) u e =
       let is : Refusal.number (x .refusal) ≡ r = ap number e in
       let in-table = numbered (x .refusal) in
       let in-walk : InWalk s 0 (s .objects) x = refused-meets (convert s (length buffer)) (convert-ends s (length buffer) deck) a (seeded (seed (s .settings))) x m u in
       record {
         from = omega (arith, in-table .0);
-        to = omega (arith, in-table .1);
+        to = subst (λ (k : ℕ). (k ≤ 12) ⊎ (k ≡ 16)) is (up-to (Refusal.number (x .refusal)) (in-table .1));
         unread = λ h. absurd (omega (arith, in-table .0));
         whole = λ h. accepted-none bytes s p;
         late = λ h. (s, p, job-eight s deck buffer a i n (u ∙ outcome lateEnd x m r i n e (is-late (x .refusal) (is ∙ h))));
         not-9 = λ h. in-walk .found (is-blocked (x .refusal) (is ∙ h));
         not-10 = λ h. in-walk .on (is-off (x .refusal) (is ∙ h));
         short = λ h. (s, p, job-eleven s deck buffer a i n (u ∙ outcome tooShort x m r i n e (is-short (x .refusal) (is ∙ h))));
-        drawn = λ h. absurd (omega (arith, in-table .1));
+        drawn = λ h. absurd (not-12 (Refusal.number (x .refusal)) (in-table .1) (is ∙ h));
+        long = λ h. let w = u ∙ outcome longSearch x m r i n e (is-long (x .refusal) (is ∙ h)) in (s, p, w, ap (λ (l : Ledger). lastOr 0 (l .searches)) ledger-is ∙ job-long s buffer a i n w);
       }
-  by-outcome (spent x m) u e =
+  by-outcome g (spent x m) u e =
       let is : 12 ≡ r = ap number e in
       let w : m ≡ a = lawful (convert s (length buffer)) (seeded (seed (s .settings))) .whole a x m u in
       record {
         from = omega arith;
-        to = omega arith;
+        to = inl (omega arith);
         unread = λ h. absurd (omega arith);
         whole = λ h. accepted-none bytes s p;
         late = λ h. absurd (omega arith);
@@ -108,6 +137,7 @@ module _ (bytes buffer : List ℕ) (s : Song) (p : parse bytes ≡ accepted s) (
         not-10 = λ h. omega arith;
         short = λ h. absurd (omega arith);
         drawn = λ k. (sym (ap count e) ∙ w, (s, p, u ∙ ap (λ (j : ℕ). spent j m) (ap index e) ∙ ap (λ (j : ℕ). spent i j) w));
+        long = λ h. absurd (omega arith);
       }
 
 of-parsed : (bytes buffer : List ℕ) (p : Parsed) → parse bytes ≡ p → (a r i n : ℕ) → jobOf p buffer a .answer ≡ refusal r i n
@@ -118,7 +148,7 @@ of-parsed bytes buffer (refused m) p a r i n e =
     let small = refused-number bytes m p in
     record {
       from = omega (arith, small .0);
-      to = omega (arith, small .1);
+      to = inl (omega (arith, small .1));
       unread = λ k. (refused-none bytes m p ∙ is, sym (ap index e), sym (ap count e));
       whole = λ k. absurd (omega (arith, small .1));
       late = λ k. absurd (omega (arith, small .1));
@@ -126,20 +156,21 @@ of-parsed bytes buffer (refused m) p a r i n e =
       not-10 = λ k. omega (arith, small .1);
       short = λ k. absurd (omega (arith, small .1));
       drawn = λ k. absurd (omega (arith, small .1));
+      long = λ k. absurd (omega (arith, small .1));
     }
-of-parsed bytes buffer (accepted s) p a r i n e = by-outcome bytes buffer s p a r i n (under s buffer a) refl e
+of-parsed bytes buffer (accepted s) p a r i n e = by-outcome bytes buffer s p a r i n _ (under s buffer a) refl e
 
 zeroed-by : (p : Parsed) (buffer : List ℕ) (a r i n : ℕ) → jobOf p buffer a .answer ≡ refusal r i n → jobOf p buffer a .chart ≡ replicate (length buffer) 0
 unfolding jobOf refusing OfSong.job
 zeroed-by (refused m) buffer a r i n e = refl
-zeroed-by (accepted s) buffer a r i n e = zeroed-of (columnsOf s) buffer (under s buffer a) r i n e
+zeroed-by (accepted s) buffer a r i n e = zeroed-of (columnsOf s) buffer _ (under s buffer a) r i n e
 
 refused-by : (bytes buffer : List ℕ) (a r i n : ℕ) → job bytes buffer a .answer ≡ refusal r i n → Condition bytes buffer a r i n
 unfolding job
 refused-by bytes buffer a r i n e = of-parsed bytes buffer (parse bytes) refl a r i n e
 
-accepted-else : (bytes buffer : List ℕ) (a : ℕ) (x : Answer) → job bytes buffer a .answer ≡ x → ((r i n : ℕ) → Condition bytes buffer a r i n → ⊥) → (n : ℕ) × (x ≡ OfSong.accepted n)
-accepted-else bytes buffer a (OfSong.accepted n) e h = (n, refl)
+accepted-else : (bytes buffer : List ℕ) (a : ℕ) (x : Answer) → job bytes buffer a .answer ≡ x → ((r i n : ℕ) → Condition bytes buffer a r i n → ⊥) → (n : ℕ) × (g : ℕ) × (x ≡ OfSong.accepted n g)
+accepted-else bytes buffer a (OfSong.accepted n g) e h = (n, g, refl)
 accepted-else bytes buffer a (refusal r i n) e h = absurd (h r i n (refused-by bytes buffer a r i n e))
 
 pub refusals : (bytes buffer : List ℕ) → Refusals bytes buffer

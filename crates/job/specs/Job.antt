@@ -3,9 +3,10 @@ use Prim.Native.Nat.{ℕ}
 use mathlib.Core.List.{List, []}
 use Rattle.rules.specs.Rule.{Outcome, ended, spent}
 use Rattle.rules.specs.Rule as Rule
+use Rattle.rules.specs.Ledger.{Ledger, nothing}
 use Rattle.mania.specs.declared.Note.{Note}
 use Rattle.mania.specs.Convert.{AtObject, columnsOf}
-use Rattle.mania.specs.Job.{Job, refusing, under}
+use Rattle.mania.specs.Job.{Job, refusing, under, ledgerUnder}
 use Rattle.mania.specs.Job as OfSong
 use Rattle.mania.specs.Demand as Draws
 use Rattle.record.specs.Record.{Parsed, refused, accepted, parse}
@@ -36,6 +37,14 @@ drawsOf (accepted s) buffer allowance = Draws.draws s buffer allowance
 
 unfoldable pub draws : List ℕ → List ℕ → ℕ → ℕ
 draws bytes buffer allowance = drawsOf (parse bytes) buffer allowance
+
+-- how the draws divide: those of each search, and those outside every search; none where no walk begins
+unfoldable pub ledgerOf : Parsed → List ℕ → ℕ → Ledger
+ledgerOf (refused n) buffer allowance = nothing
+ledgerOf (accepted s) buffer allowance = ledgerUnder s buffer allowance
+
+unfoldable pub ledger : List ℕ → List ℕ → ℕ → Ledger
+ledger bytes buffer allowance = ledgerOf (parse bytes) buffer allowance
 
 -- the notes made from each object, where the rules end with them
 unfoldable pub notesIn : Outcome ℕ AtObject (List (List Note)) → List (List Note)

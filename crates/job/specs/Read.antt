@@ -18,11 +18,11 @@ chartNotes bytes buffer a = arranged [] (map patternOf (inWalkOrder (notes bytes
 -- Of the record's bytes with a buffer lent, under every allowance that a u32 has.
 pub record Reads (bytes buffer : List ℕ) : Type 0 where
   -- the bytes are those of the columns, the draws and the notes, and the buffer's bytes after them keep their values
-  pub chart : (a n : ℕ) → job bytes buffer a .answer ≡ accepted n → job bytes buffer a .chart ≡ written (encode (columns bytes) (draws bytes buffer a) (chartNotes bytes buffer a)) buffer
+  pub chart : (a n g : ℕ) → job bytes buffer a .answer ≡ accepted n g → job bytes buffer a .chart ≡ written (encode (columns bytes) (draws bytes buffer a) (chartNotes bytes buffer a)) buffer
   -- the chart's length in bytes
-  pub long : (a n : ℕ) → job bytes buffer a .answer ≡ accepted n → n ≡ length (encode (columns bytes) (draws bytes buffer a) (chartNotes bytes buffer a))
+  pub long : (a n g : ℕ) → job bytes buffer a .answer ≡ accepted n g → n ≡ length (encode (columns bytes) (draws bytes buffer a) (chartNotes bytes buffer a))
   -- which the buffer has, and the buffer's own length stays
-  pub room : (a n : ℕ) → job bytes buffer a .answer ≡ accepted n → (n ≤ length buffer) × (length (job bytes buffer a .chart) ≡ length buffer)
+  pub room : (a n g : ℕ) → job bytes buffer a .answer ≡ accepted n g → (n ≤ length buffer) × (length (job bytes buffer a .chart) ≡ length buffer)
   -- the chart reader finds the same columns, draws and notes
-  pub read : (a n : ℕ) → a < 2 ^ 32 → job bytes buffer a .answer ≡ accepted n
+  pub read : (a n g : ℕ) → a < 2 ^ 32 → job bytes buffer a .answer ≡ accepted n g
       → decode (take n (job bytes buffer a .chart)) ≡ some (record { columns = columns bytes; draws = draws bytes buffer a; notes = chartNotes bytes buffer a })

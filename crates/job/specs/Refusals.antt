@@ -4,22 +4,26 @@ use mathlib.Core.Logic.{_⊎_}
 use Prim.Native.Nat.{ℕ, _≤_, _<_}
 use mathlib.Core.List.{List}
 use lib.ListN.{length, replicate}
-use Rattle.rules.specs.Rule.{spent}
+use Rattle.rules.specs.Rule.{refused, spent}
+use Rattle.rules.specs.Refusal.{longSearch}
+use Rattle.rules.specs.Limited.{lastOr}
 use Rattle.model.specs.Song.{Song}
+use Rattle.mania.specs.PatternGenerator.{searchLimit}
+use Rattle.mania.specs.Convert.{at}
 use Rattle.mania.specs.Refusals.{TooLate, TooLong}
 use Rattle.mania.specs.Job.{refusal, under}
 use Rattle.mania.specs.Job as OfSong
 use Rattle.record.specs.Record.{recordRefusal, accepted, parse}
-use Rattle.job.specs.Job.{job}
+use Rattle.job.specs.Job.{job, ledger}
 
 -- Of the record's bytes with a buffer lent under the allowance a: the condition of a refusal by r at object i after n draws.
 pub record Condition (bytes buffer : List ℕ) (a r i n : ℕ) : Type 0 where
   -- the numbers
   pub from : 1 ≤ r
-  pub to : r ≤ 12
+  pub to : (r ≤ 12) ⊎ (r ≡ 16)
   -- 1 to 7: the first condition of the record, in record order, that applies; before the walk, at object 0 and without a draw
   pub unread : r ≤ 7 → (recordRefusal bytes ≡ r) × (i ≡ 0) × (n ≡ 0)
-  -- 8 to 12: no condition of the record applies
+  -- 8 to 12, and 16: no condition of the record applies
   pub whole : 8 ≤ r → recordRefusal bytes ≡ 0
   -- 8: the objects before made their notes, after n draws, and the object is a slider that ends above 33,554,431
   pub late : r ≡ 8 → (s : Song) × (parse bytes ≡ accepted s) × TooLate s (length buffer) a i n
@@ -30,6 +34,8 @@ pub record Condition (bytes buffer : List ℕ) (a r i n : ℕ) : Type 0 where
   pub short : r ≡ 11 → (s : Song) × (parse bytes ≡ accepted s) × ((length buffer < 8) ⊎ TooLong s (length buffer) a i n)
   -- 12: a draw was needed and none was left; the whole allowance was drawn
   pub drawn : r ≡ 12 → (n ≡ a) × ((s : Song) × (parse bytes ≡ accepted s) × (under s buffer a ≡ spent i a))
+  -- 16: one search, the last, made as many draws as it may, and needed one more
+  pub long : r ≡ 16 → (s : Song) × (parse bytes ≡ accepted s) × (under s buffer a ≡ refused (at i longSearch) n) × (lastOr 0 (ledger bytes buffer a .searches) ≡ searchLimit)
 
 -- Of every record's bytes and buffer.
 pub record Refusals (bytes buffer : List ℕ) : Type 0 where
@@ -38,4 +44,4 @@ pub record Refusals (bytes buffer : List ℕ) : Type 0 where
   -- and zeroes the whole buffer
   pub zeroed : (a r i n : ℕ) → job bytes buffer a .answer ≡ refusal r i n → job bytes buffer a .chart ≡ replicate (length buffer) 0
   -- a job to which no condition applies ends in a chart
-  pub else : (a : ℕ) → ((r i n : ℕ) → Condition bytes buffer a r i n → ⊥) → (n : ℕ) × (job bytes buffer a .answer ≡ OfSong.accepted n)
+  pub else : (a : ℕ) → ((r i n : ℕ) → Condition bytes buffer a r i n → ⊥) → (n : ℕ) × (g : ℕ) × (job bytes buffer a .answer ≡ OfSong.accepted n g)

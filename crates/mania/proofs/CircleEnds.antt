@@ -10,7 +10,7 @@ use lib.Ieee.{Float, round, sub, lt}
 use lib.ListN.{getD}
 use borrow.Author.Tests.{eqb-true, eqb-false, ltb-true, ltb-false, eq-eqb, ne-eqb}
 use Rattle.rules.specs.Rule.{if_then_else_}
-use Rattle.rules.specs.Refusal.{Refusal, offDeck, ObjectRule}
+use Rattle.rules.specs.Refusal.{Refusal, offDeck, ObjectRule, longSearch}
 use Rattle.random.specs.Generator.{unit}
 use Rattle.mania.specs.declared.Note.{Note}
 use Rattle.mania.specs.declared.HitObjectPatternGenerator.{HitObjectPatternGenerator}
@@ -106,7 +106,7 @@ rows-rare difficulty rare =
     (if-rare (lt (double 4 1) difficulty) _ _ (if-rare rare _ _ (percent-rare 35 8 refl) (percent-rare 52 15 refl))
     (if-rare (lt (double 2 1) difficulty) _ _ (if-rare rare _ _ (percent-rare 18 0 refl) (percent-rare 45 0 refl)) (percent-rare 0 0 refl)))
 
-module _ (Q : Refusal → Type 0) (g : HitObjectPatternGenerator) (some : 2 ≤ g .columns) (deck : g .columns ≤ 9) where
+module _ (Q : Refusal → Type 0) (long : Q longSearch) (g : HitObjectPatternGenerator) (some : 2 ≤ g .columns) (deck : g .columns ≤ 9) where
   abbrev T : ℕ
   T = g .columns
 
@@ -130,7 +130,7 @@ module _ (Q : Refusal → Type 0) (g : HitObjectPatternGenerator) (some : 2 ≤ 
   unfolding HitObject.addRandom put
   random barred zero c p h k = giving tt
   random barred (suc n) c p h k =
-      seq (search-by Q (HitObject.nextOf g) T c (bitOr (p .mask) barred) h (omega arith))
+      seq (search-by Q long (HitObject.nextOf g) T c (bitOr (p .mask) barred) h (omega arith))
       (λ d i. seq {P = λ q. q .mask ≡ bitOr (p .mask) (2 ^ d)} (note d p (i .1 .1) refl)
       (λ q e. random barred n d q (i .1) (subst (λ (x : ℕ). n ≤ frees (bitOr x barred) low (T - low)) (sym e) (omega (arith, frees-put-in (p .mask) barred d low (T - low))))))
 
@@ -205,7 +205,7 @@ module _ (Q : Refusal → Type 0) (g : HitObjectPatternGenerator) (some : 2 ≤ 
   unfolding HitObject.addMirrored put
   mirrored zero c p h k = giving tt
   mirrored (suc n) c p h k =
-      seq (search-in Q low half (p .mask) (start-small T some) T c h (omega arith))
+      seq (search-in Q long low half (p .mask) (start-small T some) T c h (omega arith))
       (λ d i. let other = low + T - d - 1 in
       seq {P = λ q. q .mask ≡ bitOr (p .mask) (2 ^ d)} (note d p (omega (arith, i .1 .1)) refl)
       (λ q e. seq {P = λ r. r .mask ≡ bitOr (q .mask) (2 ^ other)} (note other q (omega (arith, i .1 .0)) refl)
@@ -295,7 +295,7 @@ module _ (Q : Refusal → Type 0) (g : HitObjectPatternGenerator) (some : 2 ≤ 
       let centre = HitObject.mirroredChances T m .centre in
       seq valued
       (λ v u. seq (mirror-count m)
-      (λ n l. seq (any-in Q low half 0 (start-small T some))
+      (λ n l. seq (any-in Q long low half 0 (start-small T some))
       (λ c h. seq (mirrored n c empty h (omega (arith, all-free low (half - low))))
       (λ p u. seq {P = Any} (by (HitObject.atCentre T n centre (unit v)) _ _ (λ e. note half p (omega arith) tt) (λ e. giving tt)) (λ q u. special q)))))
 
@@ -377,7 +377,7 @@ module _ (Q : Refusal → Type 0) (g : HitObjectPatternGenerator) (some : 2 ≤ 
           (λ e. pattern _ (rows-rare _ _)))))))))
 
 -- of every deck: one column has its own branch
-module _ (Q : Refusal → Type 0) (g : HitObjectPatternGenerator) (some : 1 ≤ g .columns) (deck : g .columns ≤ 9) (last : g .last < g .columns)
+module _ (Q : Refusal → Type 0) (long : Q longSearch) (g : HitObjectPatternGenerator) (some : 1 ≤ g .columns) (deck : g .columns ≤ 9) (last : g .last < g .columns)
     (ten : g .columns ≡ 8 → g .last ≡ 0 → HitObject.alone g ≡ true → contains (g .flags) reverseStair ≡ true → Q offDeck) where
   one-column : eqb (g .columns) 1 ≡ true → Meets Q (λ p. Unit {0}) (HitObject.generateCore g)
   unfolding HitObject.generateCore HitObject.addNote
@@ -385,7 +385,7 @@ module _ (Q : Refusal → Type 0) (g : HitObjectPatternGenerator) (some : 1 ≤ 
 
   either : (b : Bool) → eqb (g .columns) 1 ≡ b → Meets Q (λ p. Unit {0}) (HitObject.generateCore g)
   either true e = one-column e
-  either false e = let z = eqb-false (g .columns) 1 e in core Q g (omega arith) deck last ten
+  either false e = let z = eqb-false (g .columns) 1 e in core Q long g (omega arith) deck last ten
 
   pub circle-ends : Meets Q (λ m. Unit {0}) (HitObject.generate g)
   unfolding HitObject.generate

@@ -160,7 +160,7 @@ module _ (g : HitObjectPatternGenerator) (eight : g .columns ≡ 8) where
     pattern : (difficulty : Float) (rare : Bool) → Makes (λ p. ReachedOf8 (p .mask)) (HitObject.generateRandomPattern g (HitObject.chancesBy difficulty rare))
     unfolding HitObject.generateRandomPattern
     pattern difficulty rare =
-        seq (both (makes (three-notes (λ r. Unit {0}) g (omega arith) (omega arith) difficulty rare)) (at-least difficulty rare))
+        seq (both (makes (three-notes (λ r. Unit {0}) tt g (omega arith) (omega arith) difficulty rare)) (at-least difficulty rare))
         (λ n l. seq (notes n (l .1)) (λ p h. special p (omega (arith, h .0, l .0)) (h .1)))
 
     -- ---- the columns of the previous pattern

@@ -13,7 +13,7 @@ use Rattle.mania.specs.declared.Next.{Next}
 use Rattle.mania.specs.declared.Next.the-variants.{Draw, Step}
 use Rattle.mania.specs.Pattern.{free, anyFree}
 use Rattle.mania.specs.ManiaObject.{column}
-use Rattle.mania.specs.PatternGenerator.{randomStart, getColumn, getRandomNoteCount, getRandomColumn, nextColumn, stepTo, drawTo, searchOn, findAvailableColumn}
+use Rattle.mania.specs.PatternGenerator.{randomStart, getColumn, getRandomNoteCount, getRandomColumn, nextColumn, stepTo, drawTo, searchOn, columnSearch, findAvailableColumn}
 use Rattle.mania.proofs.Masks.{bit, free-bit}
 use Rattle.mania.proofs.Makes.{Makes, giving, refusing, seq, by, valued}
 
@@ -51,33 +51,37 @@ start-small columns h = go (eqb columns 8) refl
 -- ---- searches
 
 module _ (Q : ℕ → Type 0) (columns lower upper taken : ℕ) (drawn : (v : ℕ) → v < 2 ^ 31 → Q (between lower upper v)) where
-  draw-makes : Makes (λ d. (bit taken d ≡ 0) × Q d) (drawTo lower upper taken)
+  -- a column that is free, of which Q holds
+  abbrev Free : ℕ → Type 0
+  Free d = (bit taken d ≡ 0) × Q d
+
+  draw-makes : Makes (λ s. Free (s .column)) (drawTo lower upper taken)
   unfolding drawTo
-  draw-makes = record { made = λ v l e. (free-bit taken (between lower upper v) e, drawn v l) }
+  draw-makes = record { made = λ v n l e. (free-bit taken (between lower upper v) e, drawn v l) }
 
   pub find-draw : (c : ℕ) → Q c → Makes (λ d. (bit taken d ≡ 0) × Q d) (findAvailableColumn Draw columns c lower upper taken)
-  unfolding findAvailableColumn searchOn
+  unfolding findAvailableColumn columnSearch searchOn
   find-draw c h =
-      by (free taken c) _ _ (λ e. giving (free-bit taken c e, h))
-      (λ e. by (anyFree taken lower (upper - lower)) _ _ (λ e. draw-makes) (λ e. refusing))
+      seq {P = λ s. Free (s .column)} (by (free taken c) _ _ (λ e. giving (free-bit taken c e, h))
+      (λ e. by (anyFree taken lower (upper - lower)) _ _ (λ e. draw-makes) (λ e. refusing))) (λ s f. giving f)
 
   module _ (stepped : (d : ℕ) → Q d → Q (nextColumn columns d)) where
-    step-makes : (n c : ℕ) → Q c → Makes (λ d. (bit taken d ≡ 0) × Q d) (stepTo n columns taken c)
+    step-makes : (n c : ℕ) → Q c → Makes (λ s. Free (s .column)) (stepTo n columns taken c)
     unfolding stepTo
     step-makes zero c h = refusing
     step-makes (suc n) c h =
         by (free taken (nextColumn columns c)) _ _ (λ e. giving (free-bit taken (nextColumn columns c) e, stepped c h)) (λ e. step-makes n (nextColumn columns c) (stepped c h))
 
-    onward-makes : (next : Next) (c : ℕ) → Q c → Makes (λ d. (bit taken d ≡ 0) × Q d) (searchOn next columns c lower upper taken)
+    onward-makes : (next : Next) (c : ℕ) → Q c → Makes (λ s. Free (s .column)) (searchOn next columns c lower upper taken)
     unfolding searchOn
     onward-makes Draw c h = draw-makes
     onward-makes Step c h = step-makes columns c h
 
     pub find-any : (next : Next) (c : ℕ) → Q c → Makes (λ d. (bit taken d ≡ 0) × Q d) (findAvailableColumn next columns c lower upper taken)
-    unfolding findAvailableColumn
+    unfolding findAvailableColumn columnSearch
     find-any next c h =
-        by (free taken c) _ _ (λ e. giving (free-bit taken c e, h))
-        (λ e. by (anyFree taken lower (upper - lower)) _ _ (λ e. onward-makes next c h) (λ e. refusing))
+        seq {P = λ s. Free (s .column)} (by (free taken c) _ _ (λ e. giving (free-bit taken c e, h))
+        (λ e. by (anyFree taken lower (upper - lower)) _ _ (λ e. onward-makes next c h) (λ e. refusing))) (λ s f. giving f)
 
 -- a drawn column
 pub column-makes : (Q : ℕ → Type 0) (lower upper : ℕ) → ((v : ℕ) → v < 2 ^ 31 → Q (between lower upper v)) → Makes Q (getRandomColumn lower upper)

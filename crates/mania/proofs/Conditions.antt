@@ -11,7 +11,7 @@ use lib.Ieee.{Float}
 use borrow.Author.Tests.{eqb-true, eqb-false, lt-ltb}
 use Rattle.rules.specs.Rule.{Outcome, ended, spent, run}
 use Rattle.rules.specs.Rule as Rule
-use Rattle.rules.specs.Refusal.{Refusal, lateEnd, noColumn, offDeck, tooShort, number, spentNumber}
+use Rattle.rules.specs.Refusal.{Refusal, lateEnd, noColumn, offDeck, tooShort, number, spentNumber, longSearch}
 use Rattle.random.specs.Generator.{values}
 use Rattle.random.specs.Play.{Answer, found, refused, on, play}
 use Rattle.random.specs.declared.Random.{Random}
@@ -114,6 +114,7 @@ Condition f v columns o k lateEnd = Late f o k
 Condition f v columns o k noColumn = Blocked v columns k
 Condition f v columns o k offDeck = Below f v columns o k
 Condition f v columns o k tooShort = ⊥
+Condition f v columns o k longSearch = Unit {0}
 
 -- what the next object meets lies on the deck
 abbrev pub Left : ℕ → Made → Type 0
@@ -140,17 +141,17 @@ module _ (f : Facts) (v : PrevValues) (columns : ℕ) (o : Object) (some : 1 ≤
   unfolding byKind Late Blocked Below HitObject.new PathObject.new HitObject.alone
   kind-ends Circle =
       both
-      (circle-ends (Condition f v columns o Circle) (HitObject.new f v columns o) some deck last (λ e l a s. (e, l, eqb-true (ones (v .mask)) 1 a, s)))
+      (circle-ends (Condition f v columns o Circle) tt (HitObject.new f v columns o) some deck last (λ e l a s. (e, l, eqb-true (ones (v .mask)) 1 a, s)))
       (Makes.less (circle-makes (HitObject.new f v columns o) some) (λ m h. (h .0, h .1)))
   kind-ends (Slider repeats distance node) =
       both
-      (slider-ends (Condition f v columns o (Slider repeats distance node)) (PathObject.new f v columns o repeats distance node) some mask
+      (slider-ends (Condition f v columns o (Slider repeats distance node)) tt (PathObject.new f v columns o repeats distance node) some mask
       (λ b. (blocked-8 (v .mask) columns mask b, mask-254 (v .mask) columns mask b)) (λ l. l))
       (slider-makes (PathObject.new f v columns o repeats distance node) some)
   kind-ends (Spinner duration) =
-      both (end-ends (Condition f v columns o (Spinner duration)) v columns o duration some (λ b. (blocked-8 (v .mask) columns mask b, mask-254 (v .mask) columns mask b))) (end-left duration)
+      both (end-ends (Condition f v columns o (Spinner duration)) tt v columns o duration some (λ b. (blocked-8 (v .mask) columns mask b, mask-254 (v .mask) columns mask b))) (end-left duration)
   kind-ends (Hold duration) =
-      both (end-ends (Condition f v columns o (Hold duration)) v columns o duration some (λ b. (blocked-8 (v .mask) columns mask b, mask-254 (v .mask) columns mask b))) (end-left duration)
+      both (end-ends (Condition f v columns o (Hold duration)) tt v columns o duration some (λ b. (blocked-8 (v .mask) columns mask b, mask-254 (v .mask) columns mask b))) (end-left duration)
 
   pub object-ends : Meets (Condition f v columns o (o .kind)) (Left columns) (object f v columns o)
   unfolding object
@@ -161,16 +162,17 @@ module _ (f : Facts) (v : PrevValues) (columns : ℕ) (o : Object) (some : 1 ≤
   object-left d m e h = gives (Left columns) (object f v columns o) (makes object-ends .made) d m e h
 
   -- a number that an object's rule is refused by, and its condition; else it is 12
-  refused-by : (x : Outcome (Unit {0}) Refusal Made) (l : ℕ) (st : Random) → run (object f v columns o) (values l st) ≡ x → (k : ℕ) (e : Draws) → placed (λ p. spentNumber) number l st x ≡ refused k e
+  refused-by : (x : Outcome (Unit {0}) Refusal Made) (l g : ℕ) (st : Random) → run (object f v columns o) (values l st) ≡ x → (k : ℕ) (e : Draws) → placed (λ p. spentNumber) number l g st x ≡ refused k e
       → (k ≡ 12) ⊎ ((r : Refusal) × (number r ≡ k) × Condition f v columns o (o .kind) r)
   unfolding placed
-  refused-by (ended m n) l st u k e h = let z : _≡_ {A = ℕ} 0 1 = ap kind h in absurd (omega arith)
-  refused-by (Rule.refused r n) l st u k e h = inr (r, ap said h, refused-meets (object f v columns o) object-ends l st r n u)
-  refused-by (spent p n) l st u k e h = inl (sym (ap said h))
+  refused-by (ended m n) l g st u k e h = let z : _≡_ {A = ℕ} 0 1 = ap kind h in absurd (omega arith)
+  refused-by (Rule.refused r n) l g st u k e h = inr (r, ap said h, refused-meets (object f v columns o) object-ends l st r n u)
+  refused-by (spent p n) l g st u k e h = inl (sym (ap said h))
 
   object-refused : (d : Draws) (k : ℕ) (e : Draws) → on (object f v columns o) d ≡ refused k e → (k ≡ 12) ⊎ ((r : Refusal) × (number r ≡ k) × Condition f v columns o (o .kind) r)
   object-refused d k e h =
-      refused-by (run (object f v columns o) (values (d .left) (d .random))) (d .left) (d .random) refl k e (sym (play-run (λ p. spentNumber) number (object f v columns o) (d .left) (d .random)) ∙ h)
+      refused-by (run (object f v columns o) (values (d .tally .left) (d .random))) (d .tally .left) _ (d .random) refl k e
+      (sym (play-run (λ p. spentNumber) number (object f v columns o) (d .tally .left) (d .tally .longest) (d .random)) ∙ h)
 
   -- it is not refused by 11
   pub object-not-11 : (d e : Draws) → on (object f v columns o) d ≡ refused 11 e → ⊥
@@ -181,6 +183,7 @@ module _ (f : Facts) (v : PrevValues) (columns : ℕ) (o : Object) (some : 1 ≤
       short noColumn e c = omega arith
       short offDeck e c = omega arith
       short tooShort e c = c
+      short longSearch e c = omega arith
 
   -- by 8 where a slider ends too late, and then without a draw
   object-late : (d e : Draws) → on (object f v columns o) d ≡ refused 8 e → Late f o (o .kind)
@@ -191,6 +194,7 @@ module _ (f : Facts) (v : PrevValues) (columns : ℕ) (o : Object) (some : 1 ≤
       late noColumn e c = absurd (omega arith)
       late offDeck e c = absurd (omega arith)
       late tooShort e c = absurd c
+      late longSearch e c = absurd (omega arith)
 
   late-undrawn : (k : Kind) → Late f o k → (d e : Draws) → on (byKind f v columns o k) d ≡ refused 8 e → d ≡ e
   unfolding Late byKind PathObject.new PathObject.generate play

@@ -47,7 +47,7 @@ nothing : {W R A : Type 0} (m : Rule W R A) → Gives (λ a. Unit {0}) m
 nothing (give a) = tt
 nothing (refuse r) = tt
 nothing (draw r k) = λ v l. nothing (k v)
-nothing (drawUntil r p k) = λ v l e. nothing (k v)
+nothing (drawUntil w limit r test k) = λ v n l e. nothing (k v n)
 
 any : {W R A : Type 0} {m : Rule W R A} → Makes (λ a. Unit {0}) m
 any {m = m} = record { made = nothing m }

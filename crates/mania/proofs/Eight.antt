@@ -1,6 +1,6 @@
 -- 8 in a walk: the objects before the late slider made their notes, and it draws nothing. Assumes nothing.
 use mathlib.Core.Path.{_≡_, refl, sym, ap, _∙_, subst}
-use Prim.Native.Nat.{ℕ, suc, _+_, _-_, _*_, _≤_}
+use Prim.Native.Nat.{ℕ, suc, _+_, _-_, _*_, _≤_, max}
 use native.Mathlib.Nat.{add-zero, zero-add}
 use native.Mathlib.Omega.{arith}
 use mathlib.Core.Bool.{Bool, true, false}
@@ -13,9 +13,10 @@ use lib.Pow.{pow-pos}
 use borrow.Author.Tests.{ltb-false}
 use Rattle.rules.specs.Rule.{Rule, refuse, Outcome, ended, run, taken, Done, if_then_else_}
 use Rattle.rules.specs.Rule as Rule
+use Rattle.rules.specs.Ledger.{longest}
 use Rattle.rules.specs.Refusal.{lateEnd, tooShort, ObjectRule, number}
 use Rattle.random.specs.Generator.{values, seeded, steps}
-use Rattle.random.specs.Play.{Answer, found, refused, on, play}
+use Rattle.random.specs.Play.{Answer, found, refused, on, play, tallied}
 use Rattle.random.specs.declared.Random.{Random}
 use Rattle.random.specs.declared.Draws.{Draws}
 use Rattle.random.specs.Laws.Play.{placed, play-run}
@@ -122,9 +123,10 @@ module _ (s : Song) (deck : columnsOf s ≤ 9) (room a i n : ℕ) where
   unfolding placed taken beginning
   walked header late u =
       let m = whole (s .objects) in
-      let d : Draws = record { random = st; left = a } in
-      let e : Draws = record { random = steps n st; left = a - n } in
-      let h : onWalk m d ≡ refused (stop i 8) e = play-run spentAt refusedAt m a st ∙ ap (placed spentAt refusedAt a st) u in
+      let most = max 0 (longest m (values a st)) in
+      let d : Draws = tallied a 0 st in
+      let e : Draws = tallied (a - n) most (steps n st) in
+      let h : onWalk m d ≡ refused (stop i 8) e = play-run spentAt refusedAt m a 0 st ∙ ap (placed spentAt refusedAt a most st) u in
       let l = eight s (conversionDifficulty (s .settings) (s .breaks) (s .objects)) (columnsOf s) room (some-columns s) deck (s .objects) 0 beginning (pow-pos (columnsOf s), some-columns s) d i e h in
       let small : n ≤ a = subst (λ (o : Outcome ℕ AtObject (List (List Note))). taken o ≤ a) u (done-le m st a (subst Done (sym u) tt)) in
       let k-is : l .k ≡ i = sym (zero-add (l .k)) ∙ sym (l .at) in

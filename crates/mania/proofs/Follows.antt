@@ -1,6 +1,6 @@
 -- `reaches` goes as the walk does. Assumes nothing.
 use mathlib.Core.Path.{_≡_, refl, sym, ap, _∙_, subst}
-use Prim.Native.Nat.{ℕ, zero, suc, _+_, _-_, _*_, _≤_}
+use Prim.Native.Nat.{ℕ, zero, suc, _+_, _-_, _*_, _≤_, max}
 use native.Mathlib.Nat.{add-zero, zero-add}
 use native.Mathlib.Omega.{arith}
 use mathlib.Core.Bool.{Bool, true, false}
@@ -10,9 +10,10 @@ use lib.Dec.{ltb}
 use lib.Ieee.{Float}
 use lib.ListN.{length, take}
 use Rattle.rules.specs.Rule.{give, Outcome, ended, run, taken, Done}
+use Rattle.rules.specs.Ledger.{longest}
 use Rattle.rules.specs.Refusal.{number, spentNumber, ObjectRule}
 use Rattle.random.specs.Generator.{values, steps}
-use Rattle.random.specs.Play.{Answer, found, refused, on, play}
+use Rattle.random.specs.Play.{Answer, found, refused, on, play, tallied}
 use Rattle.random.specs.declared.Random.{Random}
 use Rattle.random.specs.declared.Draws.{Draws}
 use Rattle.random.specs.Laws.Play.{placed, play-run}
@@ -97,9 +98,10 @@ pub follows : (s : Song) (room k a n : ℕ) (r : Random) (nss : List (List Note)
 unfolding placed taken reaches beginning
 follows s room k a n r nss u =
     let m = walk s (conversionDifficulty (s .settings) (s .breaks) (s .objects)) (columnsOf s) room 0 beginning (take k (s .objects)) in
-    let d : Draws = record { random = r; left = a } in
-    let e : Draws = record { random = steps n r; left = a - n } in
-    let h : onWalk m d ≡ found nss e = play-run spentAt refusedAt m a r ∙ ap (placed spentAt refusedAt a r) u in
+    let most = max 0 (longest m (values a r)) in
+    let d : Draws = tallied a 0 r in
+    let e : Draws = tallied (a - n) most (steps n r) in
+    let h : onWalk m d ≡ found nss e = play-run spentAt refusedAt m a 0 r ∙ ap (placed spentAt refusedAt a most r) u in
     let c = follow s (conversionDifficulty (s .settings) (s .breaks) (s .objects)) (columnsOf s) room k 0 beginning (s .objects) d nss e h in
     let small : n ≤ a = subst (λ (o : Outcome ℕ AtObject (List (List Note))). taken o ≤ a) u (done-le m r a (subst Done (sym u) tt)) in
     record {

@@ -7,7 +7,7 @@ use lib.Dec.{ltb}
 use borrow.Author.Tests.{ltb-true}
 use Rattle.rules.specs.Rule.{if_then_else_, Rule, give, refuse, draw, drawUntil, _>>=_, label, ended, run}
 use Rattle.random.specs.Generator.{values}
-use Rattle.random.specs.Play.{value}
+use Rattle.random.specs.Play.{tallied, value}
 use Rattle.random.specs.declared.Random.{Random}
 use Rattle.random.specs.Laws.Gives.{Gives, bind-gives, play-gave}
 use Rattle.random.specs.Laws.Play.{placed, play-run}
@@ -37,7 +37,7 @@ any-gives : {W R A : Type 0} (m : Rule W R A) → Gives (λ a. Unit {0}) m
 any-gives (give a) = tt
 any-gives (refuse r) = tt
 any-gives (draw r k) = λ v l. any-gives (k v)
-any-gives (drawUntil r p k) = λ v l e. any-gives (k v)
+any-gives (drawUntil w limit r test k) = λ v n l e. any-gives (k v n)
 
 pub any : {W R A : Type 0} {m : Rule W R A} → Makes (λ a. Unit {0}) m
 any {m = m} = record { made = any-gives m }
@@ -47,7 +47,7 @@ less-gives : {W R A : Type 0} (P Q : A → Type 0) → ((a : A) → P a → Q a)
 less-gives P Q f (give a) h = f a h
 less-gives P Q f (refuse r) h = tt
 less-gives P Q f (draw r k) h = λ v l. less-gives P Q f (k v) (h v l)
-less-gives P Q f (drawUntil r p k) h = λ v l e. less-gives P Q f (k v) (h v l e)
+less-gives P Q f (drawUntil w limit r test k) h = λ v n l e. less-gives P Q f (k v n) (h v n l e)
 
 pub less : {W R A : Type 0} {P Q : A → Type 0} {m : Rule W R A} → Makes P m → ((a : A) → P a → Q a) → Makes Q m
 less {P = P} {Q = Q} {m = m} h f = record { made = less-gives P Q f m (h .made) }
@@ -57,7 +57,7 @@ both-give : {W R A : Type 0} (P Q : A → Type 0) (m : Rule W R A) → Gives P m
 both-give P Q (give a) h k = (h, k)
 both-give P Q (refuse r) h k = tt
 both-give P Q (draw r f) h k = λ v l. both-give P Q (f v) (h v l) (k v l)
-both-give P Q (drawUntil r p f) h k = λ v l e. both-give P Q (f v) (h v l e) (k v l e)
+both-give P Q (drawUntil w limit r test f) h k = λ v n l e. both-give P Q (f v n) (h v n l e) (k v n l e)
 
 pub both : {W R A : Type 0} {P Q : A → Type 0} {m : Rule W R A} → Makes P m → Makes Q m → Makes (λ a. P a × Q a) m
 both {P = P} {Q = Q} {m = m} h k = record { made = both-give P Q m (h .made) (k .made) }
@@ -67,7 +67,7 @@ unfolding label
 label-gives P f g (give a) h = h
 label-gives P f g (refuse r) h = tt
 label-gives P f g (draw r k) h = λ v l. label-gives P f g (k v) (h v l)
-label-gives P f g (drawUntil r p k) h = λ v l e. label-gives P f g (k v) (h v l e)
+label-gives P f g (drawUntil w limit r test k) h = λ v n l e. label-gives P f g (k v n) (h v n l e)
 
 -- a value is below 2 ^ 31
 pub valued : {R : Type 0} → Makes (λ v. v < 2 ^ 31) (value {R = R})
@@ -77,7 +77,7 @@ valued = record { made = λ v l. l }
 pub ran : {W R A : Type 0} (P : A → Type 0) (m : Rule W R A) → Gives P m → (s : Random) (a : ℕ) (x : A) (n : ℕ) → run m (values a s) ≡ ended x n → P x
 unfolding placed
 ran P m g s a x n e =
-    play-gave (λ w. tt {0}) (λ r. tt {0}) P m g (record { random = s; left = a }) x _ (play-run (λ w. tt {0}) (λ r. tt {0}) m a s ∙ ap (placed (λ w. tt {0}) (λ r. tt {0}) a s) e)
+    play-gave (λ w. tt {0}) (λ r. tt {0}) P m g (tallied a 0 s) x _ (play-run (λ w. tt {0}) (λ r. tt {0}) m a 0 s ∙ ap (placed (λ w. tt {0}) (λ r. tt {0}) a _ s) e)
 
 -- a note added, on the deck
 pub added : {A : Type 0} {P : Pattern A → Type 0} (columns : ℕ) (note : A) (c : ℕ) (p : Pattern A) → (c < columns → P (put note c p)) → Makes P (add columns note c p)

@@ -12,12 +12,12 @@ use Rattle.random.specs.Laws.Gives.{Gives, low-lt}
 use Rattle.mania.specs.Pattern.{Pattern, put, add}
 use Rattle.mania.proofs.Makes.{Makes}
 
--- P of each end, and Q of each refusal
+-- P of each end, and Q of each refusal, that of a search beyond its limit included
 abbrev pub Ends : {W R A : Type 0} → (A → Type 0) → (R → Type 0) → Rule W R A → Type 0
 Ends P Q (give a) = P a
 Ends P Q (refuse r) = Q r
 Ends P Q (draw w k) = (v : ℕ) → v < 2 ^ 31 → Ends P Q (k v)
-Ends P Q (drawUntil w test k) = (v : ℕ) → v < 2 ^ 31 → test v ≡ true → Ends P Q (k v)
+Ends P Q (drawUntil w limit r test k) = Q r × ((v n : ℕ) → v < 2 ^ 31 → test v ≡ true → Ends P Q (k v n))
 
 -- a name for it, so that antt finds the rule that is spoken of
 pub record Meets {W R A : Type 0} (Q : R → Type 0) (P : A → Type 0) (m : Rule W R A) : Type 0 where
@@ -29,14 +29,14 @@ unfolding _>>=_
 bind-ends P S Q f h (give a) g = h a g
 bind-ends P S Q f h (refuse r) g = g
 bind-ends P S Q f h (draw w k) g = λ v l. bind-ends P S Q f h (k v) (g v l)
-bind-ends P S Q f h (drawUntil w test k) g = λ v l e. bind-ends P S Q f h (k v) (g v l e)
+bind-ends P S Q f h (drawUntil w limit r test k) g = (g .0, λ v n l e. bind-ends P S Q f h (k v n) (g .1 v n l e))
 
 label-ends : {W W' R S A : Type 0} (P : A → Type 0) (Q : S → Type 0) (f : W → W') (g : R → S) (m : Rule W R A) → Ends P (λ r. Q (g r)) m → Ends P Q (label f g m)
 unfolding label
 label-ends P Q f g (give a) h = h
 label-ends P Q f g (refuse r) h = h
 label-ends P Q f g (draw w k) h = λ v l. label-ends P Q f g (k v) (h v l)
-label-ends P Q f g (drawUntil w test k) h = λ v l e. label-ends P Q f g (k v) (h v l e)
+label-ends P Q f g (drawUntil w limit r test k) h = (h .0, λ v n l e. label-ends P Q f g (k v n) (h .1 v n l e))
 
 module _ {W R : Type 0} {Q : R → Type 0} where
   pub giving : {A : Type 0} {P : A → Type 0} {a : A} → P a → Meets {W = W} Q P (give a)
@@ -59,7 +59,7 @@ more-ends : {W R A : Type 0} (P S : A → Type 0) (Q T : R → Type 0) → ((a :
 more-ends P S Q T f g (give a) h = f a h
 more-ends P S Q T f g (refuse r) h = g r h
 more-ends P S Q T f g (draw w k) h = λ v l. more-ends P S Q T f g (k v) (h v l)
-more-ends P S Q T f g (drawUntil w test k) h = λ v l e. more-ends P S Q T f g (k v) (h v l e)
+more-ends P S Q T f g (drawUntil w limit r test k) h = (g r (h .0), λ v n l e. more-ends P S Q T f g (k v n) (h .1 v n l e))
 
 -- less said of its ends, and of its refusals
 pub less : {W R A : Type 0} {P S : A → Type 0} {Q T : R → Type 0} {m : Rule W R A} → Meets Q P m → ((a : A) → P a → S a) → ((r : R) → Q r → T r) → Meets T S m
@@ -70,7 +70,7 @@ with-gives : {W R A : Type 0} (P S : A → Type 0) (Q : R → Type 0) (m : Rule 
 with-gives P S Q (give a) h g = g
 with-gives P S Q (refuse r) h g = h
 with-gives P S Q (draw w k) h g = λ v l. with-gives P S Q (k v) (h v l) (g v l)
-with-gives P S Q (drawUntil w test k) h g = λ v l e. with-gives P S Q (k v) (h v l e) (g v l e)
+with-gives P S Q (drawUntil w limit r test k) h g = (h .0, λ v n l e. with-gives P S Q (k v n) (h .1 v n l e) (g v n l e))
 
 pub both : {W R A : Type 0} {P S : A → Type 0} {Q : R → Type 0} {m : Rule W R A} → Meets Q S m → Makes P m → Meets Q P m
 both {P = P} {S = S} {Q = Q} {m = m} h g = record { ends = with-gives P S Q m (h .ends) (g .made) }
@@ -79,7 +79,7 @@ ends-gives : {W R A : Type 0} (P : A → Type 0) (Q : R → Type 0) (m : Rule W 
 ends-gives P Q (give a) h = h
 ends-gives P Q (refuse r) h = tt
 ends-gives P Q (draw w k) h = λ v l. ends-gives P Q (k v) (h v l)
-ends-gives P Q (drawUntil w test k) h = λ v l e. ends-gives P Q (k v) (h v l e)
+ends-gives P Q (drawUntil w limit r test k) h = λ v n l e. ends-gives P Q (k v n) (h .1 v n l e)
 
 pub makes : {W R A : Type 0} {P : A → Type 0} {Q : R → Type 0} {m : Rule W R A} → Meets Q P m → Makes P m
 makes {P = P} {Q = Q} {m = m} h = record { made = ends-gives P Q m (h .ends) }
@@ -120,13 +120,16 @@ module _ {W R A : Type 0} (P : A → Type 0) (Q : R → Type 0) where
   either-ended true o q h g = h refl
   either-ended false o q h g = g
 
-  until-ended : (w : W) (test : ℕ → Bool) (f : ℕ → List ℕ → Outcome W R A) → ((v : ℕ) (vs : List ℕ) → v < 2 ^ 31 → test v ≡ true → Small vs → Ended (f v vs))
-      → (vs : List ℕ) → Small vs → Ended (drawingUntil w test f vs)
+  until-ended : (w : W) (r : R) (test : ℕ → Bool) (f : ℕ → ℕ → List ℕ → Outcome W R A) → Q r
+      → ((v n : ℕ) (vs : List ℕ) → v < 2 ^ 31 → test v ≡ true → Small vs → Ended (f v n vs))
+      → (more made : ℕ) (vs : List ℕ) → Small vs → Ended (drawingUntil w r test f more made vs)
   unfolding drawingUntil
-  until-ended w test f g [] s = tt
-  until-ended w test f g (v ∷ vs) s =
-      after-ended (if test v then f v vs else drawingUntil w test f vs)
-      (either-ended (test v) (f v vs) (drawingUntil w test f vs) (λ e. g v vs (s .0) e (s .1)) (until-ended w test f g vs (s .1)))
+  until-ended w r test f q g zero made vs s = q
+  until-ended w r test f q g (suc more) made [] s = tt
+  until-ended w r test f q g (suc more) made (v ∷ vs) s =
+      let later = drawingUntil w r test f more (suc made) vs in
+      after-ended (if test v then f v (suc made) vs else later)
+      (either-ended (test v) (f v (suc made) vs) later (λ e. g v (suc made) vs (s .0) e (s .1)) (until-ended w r test f q g more (suc made) vs (s .1)))
 
   run-ended : (m : Rule W R A) → Ends P Q m → (vs : List ℕ) → Small vs → Ended (run m vs)
   unfolding run
@@ -134,7 +137,7 @@ module _ {W R A : Type 0} (P : A → Type 0) (Q : R → Type 0) where
   run-ended (refuse r) h vs s = h
   run-ended (draw w k) h [] s = tt
   run-ended (draw w k) h (v ∷ vs) s = after-ended (run (k v) vs) (run-ended (k v) (h v (s .0)) vs (s .1))
-  run-ended (drawUntil w test k) h vs s = until-ended w test (λ v. run (k v)) (λ v vs l e s. run-ended (k v) (h v l e) vs s) vs s
+  run-ended (drawUntil w limit r test k) h vs s = until-ended w r test (λ v n. run (k v n)) (h .0) (λ v n vs l e s. run-ended (k v n) (h .1 v n l e) vs s) limit 0 vs s
 
 pub refused-meets : {W R A : Type 0} {P : A → Type 0} {Q : R → Type 0} (m : Rule W R A) → Meets Q P m → (a : ℕ) (s : Random) (r : R) (n : ℕ) → run m (values a s) ≡ refused r n → Q r
 refused-meets {P = P} {Q = Q} m h a s r n e = subst (Ended P Q) e (run-ended P Q m (h .ends) (values a s) (values-small a s))

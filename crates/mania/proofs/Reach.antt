@@ -13,7 +13,7 @@ use lib.ListN.{length}
 use lib.Pow.{pow-pos}
 use borrow.Author.Tests.{eqb-true, eqb-false, eq-eqb, le-leb, lt-ltb}
 use Rattle.rules.specs.Rule.{Rule, if_then_else_, ended, run}
-use Rattle.rules.specs.Refusal.{Refusal, lateEnd, noColumn, offDeck, tooShort}
+use Rattle.rules.specs.Refusal.{Refusal, lateEnd, noColumn, offDeck, tooShort, longSearch}
 use Rattle.random.specs.Generator.{values}
 use Rattle.random.specs.declared.Random.{Random}
 use Rattle.model.specs.Song.{Song}
@@ -97,6 +97,7 @@ which lateEnd = 0
 which noColumn = 1
 which offDeck = 2
 which tooShort = 3
+which longSearch = 4
 
 differ : {q r : Refusal} {A : Type 0} → q ≡ r → (which q ≡ which r → ⊥) → A
 differ e n = absurd (n (ap which e))
@@ -166,6 +167,7 @@ module _ (f : Facts) (v : PrevValues) (columns : ℕ) (o : Object) (before : Rea
       by-refusal noColumn h = absurd (not-blocked (o .kind) h)
       by-refusal offDeck h = absurd (not-below (o .kind) h)
       by-refusal tooShort h = absurd h
+      by-refusal longSearch h = (λ e. differ e (λ z. omega arith), λ e. differ e (λ z. omega arith))
 
 -- the next object meets a reached pattern again
 next-reached : (columns : ℕ) (f : Facts) (o : Object) (d : Density) (made : Made) (w : Walk) → 1 ≤ columns → columns ≤ 9 → Leaves columns made → Reached columns (afterObject f o d made w .prev)
@@ -211,6 +213,7 @@ module _ (s : Song) (i : ℕ) (o : Object) (os : List Object) where
     here noColumn h = absurd (not-blocked (factsAt s difficulty d o) v columns o before (o .kind) h)
     here offDeck h = absurd (not-below (factsAt s difficulty d o) v columns o before (o .kind) h)
     here tooShort h = absurd h
+    here longSearch h = record { late = λ e. differ e (λ z. omega arith); found = λ e. differ e (λ z. omega arith); on = λ e. differ e (λ z. omega arith) }
 
     object-here : Meets (λ r. InWalk s i (o ∷ os) (at i r)) (Leaves columns) (object (factsAt s difficulty d o) v columns o)
     object-here =

@@ -1,6 +1,7 @@
 -- The claims of the single-object entry. Assumes nothing.
 use mathlib.Core.Path.{_≡_, refl, sym, ap, _∙_, subst}
-use Prim.Native.Nat.{ℕ, _-_, _*_, _^_, _≤_, _<_}
+use mathlib.Core.Logic.{_⊎_, inl, inr}
+use Prim.Native.Nat.{ℕ, _-_, _*_, _^_, _≤_, _<_, max}
 use native.Mathlib.Nat.{lt-of-not-le}
 use native.Mathlib.Omega.{arith}
 use mathlib.Core.Bool.{Bool, true, false, not}
@@ -11,9 +12,11 @@ use lib.ListN.{length}
 use borrow.Author.Tests.{ltb-true, ltb-false, eqb-true, eqb-false}
 use Rattle.rules.specs.Rule.{Outcome, ended, spent, run, taken, Done, refuse, give, if_then_else_}
 use Rattle.rules.specs.Rule as Rule
-use Rattle.rules.specs.Refusal.{Refusal, lateEnd, noColumn, offDeck, tooShort, number, spentNumber, ObjectRule}
+use Rattle.rules.specs.Ledger.{longest}
+use Rattle.rules.specs.Laws.Limited.{refused-full}
+use Rattle.rules.specs.Refusal.{Refusal, lateEnd, noColumn, offDeck, tooShort, number, spentNumber, ObjectRule, longSearch}
 use Rattle.random.specs.Generator.{values, steps}
-use Rattle.random.specs.Play.{Answer, found, refused, on, play}
+use Rattle.random.specs.Play.{Answer, found, refused, on, play, tallied}
 use Rattle.random.specs.declared.Random.{Random}
 use Rattle.random.specs.declared.Draws.{Draws}
 use Rattle.random.specs.Laws.Play.{placed, play-run}
@@ -29,7 +32,9 @@ use Rattle.mania.specs.Refusals.{Late, Blocked, Below}
 use Rattle.mania.specs.Single.{made, refusal, Single, patternFits, settingsFit, pointsFit, objectFits, withRoom, entryRefusal, refusing, ending, singleObject}
 use Rattle.mania.specs.Single as Single
 use Rattle.mania.specs.Demand.{OnDeck}
-use Rattle.mania.specs.SingleClaims.{under, draws, entry, Gave, RefusedBy, Claims}
+use Rattle.mania.specs.SingleClaims.{under, draws, entry, Gave, RefusedBy, Claims, ledgerUnder}
+use Rattle.mania.specs.PatternGenerator.{searchLimit}
+use Rattle.mania.proofs.Limits.{Long, room-bound}
 use Rattle.mania.proofs.Makes.{ran}
 use Rattle.mania.specs.Laws.Singles.{Fits, pattern-fits}
 use Rattle.mania.proofs.Meets as Meets
@@ -88,10 +93,14 @@ module _ (f : Facts) (v : PrevValues) (columns : ℕ) (o : Object) (r : Random) 
   roomy = withRoom f v columns o (length buffer)
 
   abbrev d : Draws
-  d = record { random = r; left = a }
+  d = tallied a 0 r
+
+  -- the longest search
+  abbrev most : ℕ
+  most = max 0 (longest roomy (values a r))
 
   abbrev at : ℕ → Draws
-  at n = record { random = steps n r; left = a - n }
+  at n = tallied (a - n) most (steps n r)
 
   back-to : (m : Made) (n : ℕ) → n ≤ a → on rule d ≡ found m (at n) → run rule (values a r) ≡ ended m n
   back-to m n l h = found-run (λ p. spentNumber) number rule d m (at n) h .0 ∙ ap (λ (k : ℕ). ended m k) (sub-sub-self l)
@@ -153,11 +162,11 @@ module _ (f : Facts) (v : PrevValues) (columns : ℕ) (o : Object) (r : Random) 
 
   room-made : (m : Made) (n : ℕ) → run roomy (values a r) ≡ ended m n → (run rule (values a r) ≡ ended m n) × (17 * length (m .notes) ≤ length buffer)
   unfolding placed taken
-  room-made m n u = made-from (on rule d) refl m n (within (ended m n) u tt) (play-run (λ p. spentNumber) number roomy a r ∙ ap (placed (λ p. spentNumber) number a r) u)
+  room-made m n u = made-from (on rule d) refl m n (within (ended m n) u tt) (play-run (λ p. spentNumber) number roomy a 0 r ∙ ap (placed (λ p. spentNumber) number a most r) u)
 
   room-short : (n : ℕ) → run roomy (values a r) ≡ Rule.refused tooShort n → (m : Made) × (n : ℕ) × (run rule (values a r) ≡ ended m n) × (length buffer < 17 * length (m .notes))
   unfolding placed taken
-  room-short n u = short-from (on rule d) refl n (within (Rule.refused tooShort n) u tt) (play-run (λ p. spentNumber) number roomy a r ∙ ap (placed (λ p. spentNumber) number a r) u)
+  room-short n u = short-from (on rule d) refl n (within (Rule.refused tooShort n) u tt) (play-run (λ p. spentNumber) number roomy a 0 r ∙ ap (placed (λ p. spentNumber) number a most r) u)
 
 -- ---- refusals of the rule
 
@@ -167,6 +176,7 @@ Condition f v columns o lateEnd = Late f o (o .kind)
 Condition f v columns o noColumn = Blocked v columns (o .kind)
 Condition f v columns o offDeck = Below f v columns o (o .kind)
 Condition f v columns o tooShort = Unit {0}
+Condition f v columns o longSearch = Unit {0}
 
 room-ends : (f : Facts) (v : PrevValues) (columns : ℕ) (o : Object) (room : ℕ) → Fits v columns → Meets (Condition f v columns o) (λ m. Unit {0}) (withRoom f v columns o room)
 unfolding withRoom
@@ -179,36 +189,58 @@ room-ends f v columns o room h =
     weaker noColumn h = h
     weaker offDeck h = h
     weaker tooShort h = tt
+    weaker longSearch h = tt
 
-numbered : (r : Refusal) → (8 ≤ number r) × (number r ≤ 11)
-numbered lateEnd = (omega arith, omega arith)
-numbered noColumn = (omega arith, omega arith)
-numbered offDeck = (omega arith, omega arith)
-numbered tooShort = (omega arith, omega arith)
+numbered : (r : Refusal) → (8 ≤ number r) × ((number r ≤ 11) ⊎ (number r ≡ 16))
+numbered lateEnd = (omega arith, inl (omega arith))
+numbered noColumn = (omega arith, inl (omega arith))
+numbered offDeck = (omega arith, inl (omega arith))
+numbered tooShort = (omega arith, inl (omega arith))
+numbered longSearch = (omega arith, inr refl)
 
 is-late : (r : Refusal) → number r ≡ 8 → r ≡ lateEnd
 is-late lateEnd e = refl
 is-late noColumn e = absurd (omega arith)
 is-late offDeck e = absurd (omega arith)
 is-late tooShort e = absurd (omega arith)
+is-late longSearch e = absurd (omega arith)
 
 is-blocked : (r : Refusal) → number r ≡ 9 → r ≡ noColumn
 is-blocked lateEnd e = absurd (omega arith)
 is-blocked noColumn e = refl
 is-blocked offDeck e = absurd (omega arith)
 is-blocked tooShort e = absurd (omega arith)
+is-blocked longSearch e = absurd (omega arith)
 
 is-off : (r : Refusal) → number r ≡ 10 → r ≡ offDeck
 is-off lateEnd e = absurd (omega arith)
 is-off noColumn e = absurd (omega arith)
 is-off offDeck e = refl
 is-off tooShort e = absurd (omega arith)
+is-off longSearch e = absurd (omega arith)
 
 is-short : (r : Refusal) → number r ≡ 11 → r ≡ tooShort
 is-short lateEnd e = absurd (omega arith)
 is-short noColumn e = absurd (omega arith)
 is-short offDeck e = absurd (omega arith)
 is-short tooShort e = refl
+is-short longSearch e = absurd (omega arith)
+
+is-long : (r : Refusal) → number r ≡ 16 → r ≡ longSearch
+is-long lateEnd e = absurd (omega arith)
+is-long noColumn e = absurd (omega arith)
+is-long offDeck e = absurd (omega arith)
+is-long tooShort e = absurd (omega arith)
+is-long longSearch e = refl
+
+-- no refusal of a rule is 12
+not-12 : (n : ℕ) → (n ≤ 11) ⊎ (n ≡ 16) → n ≡ 12 → ⊥
+not-12 n (inl h) e = omega arith
+not-12 n (inr h) e = omega arith
+
+up-to : (n : ℕ) → (n ≤ 11) ⊎ (n ≡ 16) → (n ≤ 12) ⊎ (n ≡ 16)
+up-to n (inl h) = inl (omega arith)
+up-to n (inr h) = inr h
 
 module _ (f : Facts) (v : PrevValues) (columns : ℕ) (o : Object) (r : Random) (buffer : List ℕ) where
   abbrev entered : ObjectRule Made
@@ -310,7 +342,7 @@ module _ (f : Facts) (v : PrevValues) (columns : ℕ) (o : Object) (r : Random) 
 
   refused-of : E ≡ 0 → (a : ℕ) (x : Outcome (Unit {0}) Refusal Made) → run entered (values a r) ≡ x → entry f v columns o r buffer a ≡ ending r buffer x
       → (k : ℕ) (s : Random) → ending r buffer x .answer ≡ refusal k s → RefusedBy f v columns o r buffer a k s
-  unfolding ending refusing under
+  unfolding ending refusing under ledgerUnder
   refused-of c a (ended m n) u j k s e = let z : _≡_ {A = ℕ} 1 0 = ap isMade e in absurd (omega arith)
   refused-of c a (Rule.refused q n) u j k s e =
       let is : number q ≡ k = ap numberOf e in
@@ -321,12 +353,15 @@ module _ (f : Facts) (v : PrevValues) (columns : ℕ) (o : Object) (r : Random) 
         unwritten = ap (λ (x : Single). x .notes) j;
         checked = λ h. absurd (h c);
         from = λ h. omega (arith, t .0);
-        to = λ h. omega (arith, t .1);
+        to = λ h. subst (λ (x : ℕ). (x ≤ 12) ⊎ (x ≡ 16)) is (up-to (number q) (t .1));
         late = λ h i. subst (Condition f v columns o) (is-late q (is ∙ i)) holds;
         blocked = λ h i. subst (Condition f v columns o) (is-blocked q (is ∙ i)) holds;
         below = λ h i. subst (Condition f v columns o) (is-off q (is ∙ i)) holds;
         short = λ h i. room-short f v columns o r buffer (entry-fits f v columns o c) a n (u ∙ ap (λ (x : Refusal). Rule.refused x n) (is-short q (is ∙ i)));
-        drawn = λ h i. absurd (omega (arith, t .1));
+        drawn = λ h i. absurd (not-12 (number q) (t .1) (is ∙ i));
+        long = λ h i.
+            let w = u ∙ ap (λ (x : Refusal). Rule.refused x n) (is-long q (is ∙ i)) in
+            (n, w, refused-full searchLimit Long entered (room-bound f v columns o (length buffer) .limits) (values a r) longSearch n w refl);
       }
   refused-of c a (spent p n) u j k s e =
       let is : 12 ≡ k = ap numberOf e in
@@ -336,12 +371,13 @@ module _ (f : Facts) (v : PrevValues) (columns : ℕ) (o : Object) (r : Random) 
         unwritten = ap (λ (x : Single). x .notes) j;
         checked = λ h. absurd (h c);
         from = λ h. omega arith;
-        to = λ h. omega arith;
+        to = λ h. inl (omega arith);
         late = λ h i. absurd (omega arith);
         blocked = λ h i. absurd (omega arith);
         below = λ h i. absurd (omega arith);
         short = λ h i. absurd (omega arith);
         drawn = λ h i. u ∙ ap (λ (x : ℕ). spent p x) w;
+        long = λ h i. absurd (omega arith);
       }
 
   refused-in : (b : Bool) → eqb E 0 ≡ b → (a : ℕ) → entry f v columns o r buffer a ≡ by b a → (k : ℕ) (s : Random) → by b a .answer ≡ refusal k s → RefusedBy f v columns o r buffer a k s
@@ -360,6 +396,7 @@ module _ (f : Facts) (v : PrevValues) (columns : ℕ) (o : Object) (r : Random) 
         below = λ h i. absurd (none h);
         short = λ h i. absurd (none h);
         drawn = λ h i. absurd (none h);
+        long = λ h i. absurd (none h);
       }
 
   pub claims : Claims f v columns o r buffer

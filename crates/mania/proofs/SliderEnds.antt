@@ -10,7 +10,7 @@ use lib.Count.{ones, ones-le}
 use lib.Ieee.{Float, round, sub, lt}
 use borrow.Author.Tests.{eqb-true, eqb-false, ltb-true, leb-true}
 use Rattle.rules.specs.Rule.{if_then_else_}
-use Rattle.rules.specs.Refusal.{Refusal, lateEnd, noColumn, ObjectRule}
+use Rattle.rules.specs.Refusal.{Refusal, lateEnd, noColumn, ObjectRule, longSearch}
 use Rattle.random.specs.Generator.{between}
 use Rattle.random.specs.Laws.Range.{between-lt}
 use Rattle.model.specs.declared.Object.{Object}
@@ -65,7 +65,7 @@ long-rare = percent-rare 23 0 0 refl refl
 abbrev pub Blocked : ℕ → ℕ → Type 0
 Blocked mask columns = (anyFree mask (randomStart columns) (columns - randomStart columns) ≡ false) × (ones mask ≡ columns → ⊥)
 
-module _ (Q : Refusal → Type 0) (g : PathObjectPatternGenerator) (some : 2 ≤ g .columns) (mask : g .mask < 2 ^ g .columns) (nine : Blocked (g .mask) (g .columns) → Q noColumn) where
+module _ (Q : Refusal → Type 0) (long : Q longSearch) (g : PathObjectPatternGenerator) (some : 2 ≤ g .columns) (mask : g .mask < 2 ^ g .columns) (nine : Blocked (g .mask) (g .columns) → Q noColumn) where
   abbrev T : ℕ
   T = g .columns
 
@@ -87,11 +87,11 @@ module _ (Q : Refusal → Type 0) (g : PathObjectPatternGenerator) (some : 2 ≤
 
   any-column : Meets Q On (PathObject.anyColumn g)
   unfolding PathObject.anyColumn
-  any-column = any-in Q low T 0 above
+  any-column = any-in Q long low T 0 above
 
   find : (c taken : ℕ) → On c → 0 < frees taken low (T - low) → Meets Q (FreeIn taken low T) (PathObject.findColumn g c taken)
   unfolding PathObject.findColumn
-  find c taken h k = search-in Q low T taken above T c h k
+  find c taken h k = search-in Q long low T taken above T c h k
 
   -- the head: off the previous pattern
   head : (flags : ℕ) → Meets Q On (PathObject.headColumn g flags)
@@ -99,7 +99,7 @@ module _ (Q : Refusal → Type 0) (g : PathObjectPatternGenerator) (some : 2 ≤
   head flags =
       by (contains flags forceNotStack && ltb (ones (g .mask)) T) _ _
       (λ e. let few = ltb-true (ones (g .mask)) T (and-r (contains flags forceNotStack) (ltb (ones (g .mask)) T) e) in
-      less (search Q low T (g .mask) above T (getColumn (g .x) T) (own-column (g .x) T (omega arith)) (λ c f. nine (f, λ z. omega arith))) (λ d h. h .1) (λ r q. q))
+      less (search Q long low T (g .mask) above T (getColumn (g .x) T) (own-column (g .x) T (omega arith)) (λ c f. nine (f, λ z. omega arith))) (λ d h. h .1) (λ r q. q))
       (λ e. giving (own-column (g .x) T (omega arith)))
 
   -- ---- holds of the whole slider
@@ -323,7 +323,7 @@ module _ (Q : Refusal → Type 0) (g : PathObjectPatternGenerator) (some : 2 ≤
   unfolding PathObject.generateCore
   several = by (eqb T 1) _ _ (λ e. bar 0 (g .start) (g .end) empty (omega arith) tt) (λ e. by (ltb 1 (g .spans)) _ _ (λ e. spans) (λ e. span))
 
-module _ (Q : Refusal → Type 0) (g : PathObjectPatternGenerator) (some : 1 ≤ g .columns) (mask : g .mask < 2 ^ g .columns) (nine : Blocked (g .mask) (g .columns) → Q noColumn)
+module _ (Q : Refusal → Type 0) (long : Q longSearch) (g : PathObjectPatternGenerator) (some : 1 ≤ g .columns) (mask : g .mask < 2 ^ g .columns) (nine : Blocked (g .mask) (g .columns) → Q noColumn)
     (eight : PathObject.latest < g .end → Q lateEnd) where
   one-column : eqb (g .columns) 1 ≡ true → Meets Q (λ p. Unit {0}) (PathObject.generateCore g)
   unfolding PathObject.generateCore PathObject.addSliderNote
@@ -331,7 +331,7 @@ module _ (Q : Refusal → Type 0) (g : PathObjectPatternGenerator) (some : 1 ≤
 
   either : (b : Bool) → eqb (g .columns) 1 ≡ b → Meets Q (λ p. Unit {0}) (PathObject.generateCore g)
   either true e = one-column e
-  either false e = let z = eqb-false (g .columns) 1 e in several Q g (omega arith) mask nine
+  either false e = let z = eqb-false (g .columns) 1 e in several Q long g (omega arith) mask nine
 
   pub slider-ends : Meets Q (λ m. Unit {0}) (PathObject.generate g)
   unfolding PathObject.generate
@@ -339,7 +339,7 @@ module _ (Q : Refusal → Type 0) (g : PathObjectPatternGenerator) (some : 1 ≤
 
 -- ---- a spinner or a hold
 
-module _ (Q : Refusal → Type 0) (v : PrevValues) (columns : ℕ) (o : Object) (duration : Float) (some : 1 ≤ columns) (nine : Blocked (v .mask) columns → Q noColumn) where
+module _ (Q : Refusal → Type 0) (long : Q longSearch) (v : PrevValues) (columns : ℕ) (o : Object) (duration : Float) (some : 1 ≤ columns) (nine : Blocked (v .mask) columns → Q noColumn) where
   above-one : randomStart columns < columns
   above-one = go (eqb columns 8) refl
     where
@@ -350,13 +350,13 @@ module _ (Q : Refusal → Type 0) (v : PrevValues) (columns : ℕ) (o : Object) 
   end-column : Meets Q (λ c. c < columns) (EndTimeObject.endColumn v columns)
   unfolding EndTimeObject.endColumn
   end-column =
-      seq (any-in Q (randomStart columns) columns 0 above-one)
+      seq (any-in Q long (randomStart columns) columns 0 above-one)
       (λ c h. go (eqb (ones (v .mask)) columns) refl c h)
     where
       go : (b : Bool) → eqb (ones (v .mask)) columns ≡ b → (c : ℕ) → In (randomStart columns) columns c
           → Meets Q (λ c. c < columns) (findAvailableColumn Draw columns c (randomStart columns) columns (if b then 0 else v .mask))
-      go true e c h = less (search-in Q (randomStart columns) columns 0 above-one columns c h (omega (arith, all-free (randomStart columns) (columns - randomStart columns), above-one))) (λ d i. i .1 .1) (λ r q. q)
-      go false e c h = less (search Q (randomStart columns) columns (v .mask) above-one columns c h (λ t f. nine (f, eqb-false (ones (v .mask)) columns e))) (λ d i. i .1 .1) (λ r q. q)
+      go true e c h = less (search-in Q long (randomStart columns) columns 0 above-one columns c h (omega (arith, all-free (randomStart columns) (columns - randomStart columns), above-one))) (λ d i. i .1 .1) (λ r q. q)
+      go false e c h = less (search Q long (randomStart columns) columns (v .mask) above-one columns c h (λ t f. nine (f, eqb-false (ones (v .mask)) columns e))) (λ d i. i .1 .1) (λ r q. q)
 
   note-column : (lasts : Float) → Meets Q (λ c. c < columns) (EndTimeObject.noteColumn v columns o lasts)
   unfolding EndTimeObject.noteColumn

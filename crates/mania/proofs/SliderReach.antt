@@ -307,7 +307,7 @@ module _ (g : PathObjectPatternGenerator) (eight : g .columns ≡ 8) (mask : g .
         seq (head (g .flags))
         (λ hold l. seq (note hold (g .start) (g .end) empty (put-held E hold (g .start) (g .end) empty 0 (inl l) (none E)))
         (λ p h. seq any-column
-        (λ c i. seq (makes (beside-count (λ r. Unit {0}) g (omega arith) mask (λ b. tt)))
+        (λ c i. seq (makes (beside-count (λ r. Unit {0}) tt g (omega arith) mask (λ b. tt)))
         (λ n j. besides hold _ (min n (T - 1)) _ _ c p (omega arith) i (start E 1 2 (g .start) p h)))))
 
   -- ---- tiles

@@ -6,7 +6,7 @@ use lib.IntN.{ℤ, pos, negsuc}
 use lib.Ieee.{Float, binary32, binary64, ofInt, add, sub, mul, div, le}
 use lib.ListN.{length}
 use Rattle.rules.specs.Rule.{give, refuse, drawUntil, _>>=_, if_then_else_}
-use Rattle.rules.specs.Refusal.{ObjectRule, noColumn}
+use Rattle.rules.specs.Refusal.{ObjectRule, noColumn, longSearch}
 use Rattle.random.specs.Generator.{between, unit}
 use Rattle.random.specs.Play.{value}
 use Rattle.floats.specs.Whole.{whole}
@@ -53,33 +53,53 @@ getRandomColumn lower upper = do
 
 -- ---- `find_available_column`
 
+-- what a search finds: a column, and how many draws the search made
+pub record Searched : Type 0 where
+  pub column : ℕ
+  pub draws : ℕ
+
+-- a column found without a draw
+abbrev pub undrawn : ℕ → Searched
+undrawn c = record { column = c; draws = 0 }
+
+-- how many draws one search may make
+abbrev pub searchLimit : ℕ
+searchLimit = 4096
+
 -- the next column for gathered circles: `get_next_column`
 unfoldable pub nextColumn : ℕ → ℕ → ℕ
 nextColumn columns c = if eqb (c + 1) columns then randomStart columns else c + 1
 
 -- steps by one until a free column comes; as many steps as there are columns go round the deck, so where one is free the refusal is not reached
-unfoldable pub stepTo : ℕ → ℕ → ℕ → ℕ → ObjectRule ℕ
+unfoldable pub stepTo : ℕ → ℕ → ℕ → ℕ → ObjectRule Searched
 stepTo zero columns taken c = refuse noColumn
 stepTo (suc n) columns taken c =
     let later = stepTo n columns taken (nextColumn columns c) in
-    if free taken (nextColumn columns c) then give (nextColumn columns c) else later
+    if free taken (nextColumn columns c) then give (undrawn (nextColumn columns c)) else later
 
--- draws from lower up to, and without, upper until a free column comes
-unfoldable pub drawTo : ℕ → ℕ → ℕ → ObjectRule ℕ
-drawTo lower upper taken = drawUntil tt (λ v. free taken (between lower upper v)) (λ v. give (between lower upper v))
+-- draws from lower up to, and without, upper until a free column comes; 16 where a draw beyond the limit is needed
+unfoldable pub drawTo : ℕ → ℕ → ℕ → ObjectRule Searched
+drawTo lower upper taken =
+    drawUntil tt searchLimit longSearch (λ v. free taken (between lower upper v)) (λ v n. give (record { column = between lower upper v; draws = n }))
 
 -- how a search goes on from a column that is taken: the enum in place of the Rust's function argument
-unfoldable pub searchOn : Next → ℕ → ℕ → ℕ → ℕ → ℕ → ObjectRule ℕ
+unfoldable pub searchOn : Next → ℕ → ℕ → ℕ → ℕ → ℕ → ObjectRule Searched
 searchOn Draw columns c lower upper taken = drawTo lower upper taken
 searchOn Step columns c lower upper taken = stepTo columns columns taken c
 
 -- A search first tries its column, then whether lower up to upper has a valid one (else 9), then draws or steps by one. A column is valid where
 -- the mask `taken` has it free: the union of the patterns, and of the one column that must not come again.
-unfoldable pub findAvailableColumn : Next → ℕ → ℕ → ℕ → ℕ → ℕ → ObjectRule ℕ
-findAvailableColumn next columns initial lower upper taken =
-    if free taken initial then give initial
+unfoldable pub columnSearch : Next → ℕ → ℕ → ℕ → ℕ → ℕ → ObjectRule Searched
+columnSearch next columns initial lower upper taken =
+    if free taken initial then give (undrawn initial)
     else if anyFree taken lower (upper - lower) then searchOn next columns initial lower upper taken
     else refuse noColumn
+
+-- the column of a search; its draws stay in the rule's ledger
+unfoldable pub findAvailableColumn : Next → ℕ → ℕ → ℕ → ℕ → ℕ → ObjectRule ℕ
+findAvailableColumn next columns initial lower upper taken = do
+  s ← columnSearch next columns initial lower upper taken
+  give (s .column)
 
 -- ---- `conversion_difficulty`
 

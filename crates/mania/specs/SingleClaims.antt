@@ -1,11 +1,14 @@
 -- What is claimed of the single-object entry. Assumes nothing.
 use mathlib.Core.Path.{_≡_}
+use mathlib.Core.Logic.{_⊎_}
 use Prim.Native.Nat.{ℕ, _*_, _^_, _≤_, _<_}
 use mathlib.Core.List.{List}
 use lib.Dec.{eqb}
 use lib.ListN.{length}
-use Rattle.rules.specs.Rule.{Outcome, ended, spent, run, taken, if_then_else_}
-use Rattle.rules.specs.Refusal.{Refusal, spentNumber}
+use Rattle.rules.specs.Rule.{Outcome, ended, refused, spent, run, taken, if_then_else_}
+use Rattle.rules.specs.Ledger.{Ledger, ledger}
+use Rattle.rules.specs.Limited.{lastOr}
+use Rattle.rules.specs.Refusal.{Refusal, longSearch, spentNumber}
 use Rattle.random.specs.Generator.{values, steps}
 use Rattle.random.specs.declared.Random.{Random}
 use Rattle.model.specs.declared.Object.{Object}
@@ -14,6 +17,7 @@ use Rattle.mania.specs.declared.PrevValues.{PrevValues}
 use Rattle.mania.specs.declared.Note.{Note}
 use Rattle.mania.specs.declared.Stair.{Stair}
 use Rattle.mania.specs.Made.{Made}
+use Rattle.mania.specs.PatternGenerator.{searchLimit}
 use Rattle.mania.specs.Object.{object}
 use Rattle.mania.specs.Chart.{body, written}
 use Rattle.mania.specs.Single.{made, refusal, Single, withRoom, entryRefusal, singleObject}
@@ -24,6 +28,10 @@ module _ (f : Facts) (v : PrevValues) (columns : ℕ) (o : Object) (r : Random) 
   -- how the object's rule ends under an allowance, where the checks pass
   unfoldable pub under : ℕ → Outcome (Unit {0}) Refusal Made
   under a = run (withRoom f v columns o (length buffer)) (values a r)
+
+  -- whose the draws are
+  unfoldable pub ledgerUnder : ℕ → Ledger
+  ledgerUnder a = ledger (withRoom f v columns o (length buffer)) (values a r)
 
   -- how many draws are made: none where a check fails
   unfoldable pub draws : ℕ → ℕ
@@ -60,10 +68,10 @@ module _ (f : Facts) (v : PrevValues) (columns : ℕ) (o : Object) (r : Random) 
     -- the state is the one that was lent, and nothing is written
     pub lent : s ≡ r
     pub unwritten : entry a .notes ≡ buffer
-    -- 13, 4, 5 and 6: the first check that fails; else it is 8 to 12
+    -- 13, 4, 5 and 6: the first check that fails; else it is 8 to 12, or 16
     pub checked : (entryRefusal f v columns o ≡ 0 → ⊥) → k ≡ entryRefusal f v columns o
     pub from : entryRefusal f v columns o ≡ 0 → 8 ≤ k
-    pub to : entryRefusal f v columns o ≡ 0 → k ≤ 12
+    pub to : entryRefusal f v columns o ≡ 0 → (k ≤ 12) ⊎ (k ≡ 16)
     -- 8: the object is a slider that ends above 33,554,431
     pub late : entryRefusal f v columns o ≡ 0 → k ≡ 8 → Late f o (o .kind)
     -- 9: no circle, and of 8 columns the previous pattern has 1 to 7 and not 0
@@ -74,6 +82,8 @@ module _ (f : Facts) (v : PrevValues) (columns : ℕ) (o : Object) (r : Random) 
     pub short : entryRefusal f v columns o ≡ 0 → k ≡ 11 → (m : Made) × (n : ℕ) × (run (object f v columns o) (values a r) ≡ ended m n) × (length buffer < 17 * length (m .notes))
     -- 12: a draw was needed and none was left; the whole allowance was drawn
     pub drawn : entryRefusal f v columns o ≡ 0 → k ≡ 12 → under a ≡ spent tt a
+    -- 16: one search, the last, made as many draws as it may, and needed one more
+    pub long : entryRefusal f v columns o ≡ 0 → k ≡ 16 → (n : ℕ) × (under a ≡ refused longSearch n) × (lastOr 0 (ledgerUnder a .searches) ≡ searchLimit)
 
   -- Of one object with all that is lent, under every allowance.
   pub record Claims : Type 0 where

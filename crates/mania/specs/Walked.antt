@@ -2,7 +2,7 @@
 use Prim.Native.Nat.{ℕ}
 use Rattle.rules.specs.Rule.{Rule}
 use Rattle.rules.specs.Refusal.{number, spentNumber}
-use Rattle.random.specs.Play.{Answer, play}
+use Rattle.random.specs.Play.{Answer, playOn}
 use Rattle.random.specs.declared.Draws.{Draws}
 use Rattle.mania.specs.Convert.{AtObject}
 
@@ -23,4 +23,4 @@ abbrev pub refusedAt : AtObject → Stop
 refusedAt r = stop (r .object) (number (r .refusal))
 
 abbrev pub onWalk : {A : Type 0} → Rule ℕ AtObject A → Draws → Answer Stop A
-onWalk m d = play spentAt refusedAt m (d .left) (d .random)
+onWalk m d = playOn spentAt refusedAt m d

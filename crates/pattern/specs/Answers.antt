@@ -9,8 +9,11 @@ use Rattle.mania.specs.declared.Note.{Note}
 use Rattle.mania.specs.declared.Stair.{Stair}
 use Rattle.mania.specs.Made.{Made}
 use Rattle.mania.specs.Pattern.{Pattern}
+use Rattle.mania.specs.PatternGenerator.{Searched}
 use Rattle.pattern.specs.declared.Number.{Number}
 use Rattle.pattern.specs.declared.Number.the-variants as N
+use Rattle.pattern.specs.declared.Search.{Search}
+use Rattle.pattern.specs.declared.Search.the-variants as S
 use Rattle.pattern.specs.declared.Pattern as Lent
 use Rattle.pattern.specs.declared.Placed.{Placed}
 use Rattle.pattern.specs.declared.Placed.the-variants as P
@@ -20,6 +23,10 @@ use Rattle.pattern.specs.declared.ObjectEnd.the-variants as E
 abbrev pub number : Number → Answer ℕ ℕ
 number (N.Given n d) = found n d
 number (N.Refused x d) = refused x d
+
+abbrev pub searchEnd : Search → Answer ℕ Searched
+searchEnd (S.Found c n d) = found (record { column = c; draws = n }) d
+searchEnd (S.Refused x d) = refused x d
 
 -- the pattern whose notes are the first words of a buffer
 unfoldable pub pattern : {A : Type 0} → (ℕ → A) → List ℕ → Lent.Pattern → Pattern A

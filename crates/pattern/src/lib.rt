@@ -9,8 +9,8 @@ ghost use Rattle.mania.specs.Sound.{hasFlag};
 ghost use Rattle.mania.specs.PatternType.{contains};
 ghost use Rattle.mania.specs.Pattern.{free, anyFree};
 ghost use Rattle.mania.specs.ManiaObject as ManiaObject;
-ghost use Rattle.mania.specs.PatternGenerator.{randomStart, getColumn, noteCount, getRandomNoteCount, getRandomColumn, nextColumn, stepTo, drawTo, searchOn, findAvailableColumn};
-ghost use Rattle.pattern.specs.Answers.{number};
+ghost use Rattle.mania.specs.PatternGenerator.{randomStart, getColumn, noteCount, getRandomNoteCount, getRandomColumn, nextColumn, stepTo, drawTo, searchOn, columnSearch, findAvailableColumn};
+ghost use Rattle.pattern.specs.Answers.{number, searchEnd};
 use floats::Way;
 use mania::Next;
 use mania::Stair;
@@ -20,6 +20,12 @@ use random::Draws;
 // What a rule that ends in a number gives: that number, or the number of a refusal, and the draws after it.
 pub enum Number {
     Given(u8, Draws),
+    Refused(u8, Draws),
+}
+
+// What a search for a column gives: the column, how many draws the search made, and the draws after it; or the number of a refusal.
+pub enum Search {
+    Found(u8, u32, Draws),
     Refused(u8, Draws),
 }
 
@@ -245,6 +251,9 @@ pub fn get_random_note_count(d: Draws, p2: f64, p3: f64, p4: f64, p5: f64, p6: f
 
 // ---- the search
 
+// How many draws one search may make.
+pub const SEARCH_LIMIT: u32 = 4096;
+
 // The column after c, and after the last one the first.
 pub fn next_column(columns: u8, c: u8) -> u8
     requires { ⌜ c < columns ⌝ }
@@ -258,44 +267,50 @@ pub fn next_column(columns: u8, c: u8) -> u8
 }
 
 // Steps by one until a free column comes, at most once round the deck.
-fn step_to(d: Draws, columns: u8, taken: u16, initial: u8) -> Number
+fn step_to(d: Draws, columns: u8, taken: u16, initial: u8) -> Search
     requires { ⌜ (initial < columns) × (columns ≤ 9) ⌝ }
-    ensures { λ r. ⌜ number r ≡ on (stepTo columns columns taken initial) d ⌝ }
+    ensures { λ r. ⌜ searchEnd r ≡ on (stepTo columns columns taken initial) d ⌝ }
 {
     let mut c = initial;
     let mut left = columns;
     while 0 < left {
         c = next_column(columns, c);
         if is_free(taken, c) {
-            return Number::Given(c, d);
+            return Search::Found(c, 0, d);
         }
         left = left - 1;
     }
-    Number::Refused(9, d)
+    Search::Refused(9, d)
 }
 
-// Draws from lower up to, and without, upper until a free column comes.
-fn draw_to(d: Draws, lower: u8, upper: u8, taken: u16) -> Number
+// Draws from lower up to, and without, upper until a free column comes, and counts its draws: where it needs one beyond the limit, 16.
+fn draw_to(d: Draws, lower: u8, upper: u8, taken: u16) -> Search
     requires { ⌜ (lower < upper) × (upper ≤ 9) ⌝ }
-    ensures { λ r. ⌜ number r ≡ on (drawTo lower upper taken) d ⌝ }
+    ensures { λ r. ⌜ searchEnd r ≡ on (drawTo lower upper taken) d ⌝ }
 {
     let mut rest = d;
-    loop {
+    let mut made: u32 = 0;
+    while made < SEARCH_LIMIT {
         let Drawn::Value(v, next) = random::draw(rest) else {
-            return Number::Refused(12, rest);
+            let after = random::after_search(rest, made);
+            return Search::Refused(12, after);
         };
+        made = made + 1;
+        rest = next;
         let c = random::next_int_range(v, lower, upper);
         if is_free(taken, c) {
-            return Number::Given(c, next);
+            let after = random::after_search(rest, made);
+            return Search::Found(c, made, after);
         }
-        rest = next;
     }
+    let after = random::after_search(rest, made);
+    Search::Refused(16, after)
 }
 
 // How a search goes on from a column that is taken.
-fn search_on(d: Draws, next: Next, columns: u8, c: u8, lower: u8, upper: u8, taken: u16) -> Number
+fn search_on(d: Draws, next: Next, columns: u8, c: u8, lower: u8, upper: u8, taken: u16) -> Search
     requires { ⌜ (c < columns) × (columns ≤ 9) × (lower < upper) × (upper ≤ 9) ⌝ }
-    ensures { λ r. ⌜ number r ≡ on (searchOn next columns c lower upper taken) d ⌝ }
+    ensures { λ r. ⌜ searchEnd r ≡ on (searchOn next columns c lower upper taken) d ⌝ }
 {
     match next {
         Next::Draw => draw_to(d, lower, upper, taken),
@@ -304,6 +319,28 @@ fn search_on(d: Draws, next: Next, columns: u8, c: u8, lower: u8, upper: u8, tak
 }
 
 // The column itself where it is free; else, where lower up to upper has a free one, one by draws or by steps.
+pub fn column_search(
+    d: Draws,
+    next: Next,
+    columns: u8,
+    initial: u8,
+    lower: u8,
+    upper: u8,
+    taken: u16,
+) -> Search
+    requires { ⌜ (initial < columns) × (columns ≤ 9) × (lower < upper) × (upper ≤ 9) ⌝ }
+    ensures { λ r. ⌜ searchEnd r ≡ on (columnSearch next columns initial lower upper taken) d ⌝ }
+{
+    if is_free(taken, initial) {
+        return Search::Found(initial, 0, d);
+    }
+    if any_free(taken, lower, upper) {
+        return search_on(d, next, columns, initial, lower, upper, taken);
+    }
+    Search::Refused(9, d)
+}
+
+// The column of a search. The tally has its draws where no search before made more.
 pub fn find_available_column(
     d: Draws,
     next: Next,
@@ -316,11 +353,8 @@ pub fn find_available_column(
     requires { ⌜ (initial < columns) × (columns ≤ 9) × (lower < upper) × (upper ≤ 9) ⌝ }
     ensures { λ r. ⌜ number r ≡ on (findAvailableColumn next columns initial lower upper taken) d ⌝ }
 {
-    if is_free(taken, initial) {
-        return Number::Given(initial, d);
+    match column_search(d, next, columns, initial, lower, upper, taken) {
+        Search::Found(c, made, after) => Number::Given(c, after),
+        Search::Refused(n, after) => Number::Refused(n, after),
     }
-    if any_free(taken, lower, upper) {
-        return search_on(d, next, columns, initial, lower, upper, taken);
-    }
-    Number::Refused(9, d)
 }

@@ -1,9 +1,9 @@
 -- What a rule comes to from a state of the generator with a number of draws left: each draw takes a step.
--- `Laws.Plays.play-run` shows that this is what the rule comes to on the list of the values of that many steps. Assumes nothing.
-use Prim.Native.Nat.{ℕ, zero, suc}
+-- `Laws.Play.play-run` shows that this is what the rule comes to on the list of the values of that many steps. Assumes nothing.
+use Prim.Native.Nat.{ℕ, zero, suc, max}
 use mathlib.Core.Bool.{Bool}
 use Rattle.rules.specs.Rule.{if_then_else_, Rule, give, refuse, draw, drawUntil}
-use Rattle.rules.specs.Refusal.{number, spentNumber, ObjectRule}
+use Rattle.rules.specs.Refusal.{Refusal, number, spentNumber, ObjectRule}
 use Rattle.random.specs.Generator.{next, low}
 use Rattle.random.specs.declared.Random.{Random}
 use Rattle.random.specs.declared.Draws.{Draws}
@@ -13,26 +13,45 @@ pub data Answer (S A : Type 0) : Type 0 where
   found : A → Draws → Answer S A
   refused : S → Draws → Answer S A
 
+-- from a state, with so many draws left, and so many made by the longest search
+abbrev pub tallied : ℕ → ℕ → Random → Draws
+tallied left longest s = record { random = s; tally = record { left = left; longest = longest } }
+
+-- the draws after a search that made n
+unfoldable pub searched : ℕ → Draws → Draws
+searched n d = tallied (d .tally .left) (max (d .tally .longest) n) (d .random)
+
 -- what is said of a draw at p with no value left, and of a refusal by r
 module _ {P R S : Type 0} (out : P → S) (no : R → S) where
-  unfoldable pub playUntil : {A : Type 0} → P → (ℕ → Bool) → (ℕ → ℕ → Random → Answer S A) → ℕ → Random → Answer S A
-  playUntil p test k zero s = refused (out p) (record { random = s; left = zero })
-  playUntil p test k (suc l) s =
-      let here = k (low (next s)) l (next s) in
-      let later = playUntil p test k l (next s) in
+  -- a search that may make so many more draws, and has made `made`; the longest search before it made g
+  unfoldable pub playUntil : {A : Type 0} → P → R → (ℕ → Bool) → (ℕ → ℕ → ℕ → ℕ → Random → Answer S A) → ℕ → ℕ → ℕ → ℕ → Random → Answer S A
+  playUntil p r test k zero made l g s = refused (no r) (tallied l (max g made) s)
+  playUntil p r test k (suc more) made zero g s = refused (out p) (tallied zero (max g made) s)
+  playUntil p r test k (suc more) made (suc l) g s =
+      let here = k (low (next s)) (suc made) l (max g (suc made)) (next s) in
+      let later = playUntil p r test k more (suc made) l g (next s) in
       if test (low (next s)) then here else later
 
-  unfoldable pub play : {A : Type 0} → Rule P R A → ℕ → Random → Answer S A
+  -- with l draws left, the longest search so far being one of g
+  unfoldable pub play : {A : Type 0} → Rule P R A → ℕ → ℕ → Random → Answer S A
   unfolding playUntil
-  play (give a) l s = found a (record { random = s; left = l })
-  play (refuse r) l s = refused (no r) (record { random = s; left = l })
-  play (draw p k) zero s = refused (out p) (record { random = s; left = zero })
-  play (draw p k) (suc l) s = play (k (low (next s))) l (next s)
-  play (drawUntil p test k) l s = playUntil p test (λ v. play (k v)) l s
+  play (give a) l g s = found a (tallied l g s)
+  play (refuse r) l g s = refused (no r) (tallied l g s)
+  play (draw p k) zero g s = refused (out p) (tallied zero g s)
+  play (draw p k) (suc l) g s = play (k (low (next s))) l g (next s)
+  play (drawUntil p limit r test k) l g s = playUntil p r test (λ v n. play (k v n)) limit 0 l g s
+
+  abbrev pub playOn : {A : Type 0} → Rule P R A → Draws → Answer S A
+  playOn m d = play m (d .tally .left) (d .tally .longest) (d .random)
 
 -- an object's rule, its refusals and a spent draw by their numbers
 abbrev pub on : {A : Type 0} → ObjectRule A → Draws → Answer ℕ A
-on m d = play (λ p. spentNumber) number m (d .left) (d .random)
+on m d = playOn (λ p. spentNumber) number m d
+
+-- a search of an object's rule, where it may make so many more draws and has made `made`
+abbrev pub onUntil : {A : Type 0} → Refusal → (ℕ → Bool) → (ℕ → ℕ → ObjectRule A) → ℕ → ℕ → Draws → Answer ℕ A
+onUntil r test k more made d =
+    playUntil (λ p. spentNumber) number (tt {0}) r test (λ v n. play (λ p. spentNumber) number (k v n)) more made (d .tally .left) (d .tally .longest) (d .random)
 
 -- the next value
 abbrev pub value : {R : Type 0} → Rule (Unit {0}) R ℕ

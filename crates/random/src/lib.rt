@@ -2,7 +2,7 @@
 ghost use mathlib.Core.Path.{_≡_};
 ghost use Prim.Native.Nat.{_+_, _-_, _*_, _^_, _≤_, _<_};
 ghost use Rattle.random.specs.Generator.{seeded, next, low, between, unit};
-ghost use Rattle.random.specs.Play.{on, value};
+ghost use Rattle.random.specs.Play.{on, value, searched};
 ghost use Rattle.random.specs.Answers.{drawn};
 
 // The generator state: four words.
@@ -13,10 +13,16 @@ pub struct Random {
     pub w: u32,
 }
 
-// A state, and how many draws may still be made from it.
+// How many draws may still be made, and how many the longest search made so far.
+pub struct Tally {
+    pub left: u32,
+    pub longest: u32,
+}
+
+// A state, and the tally of the draws from it.
 pub struct Draws {
     pub random: Random,
-    pub left: u32,
+    pub tally: Tally,
 }
 
 // What a draw gives: a value below 2^31, and the draws after it.
@@ -84,19 +90,32 @@ fn lent_step(mut random: Random) -> Stepped
 pub fn draw(d: Draws) -> Drawn
     ensures { λ r. ⌜ drawn d r ≡ on value d ⌝ }
 {
-    let left = d.left;
+    let tally = d.tally;
+    let left = tally.left;
     if left == 0 {
         return Drawn::Spent;
     }
     let s = lent_step(d.random);
     let random = s.random;
-    Drawn::Value(
-        s.value,
-        Draws {
-            random,
-            left: left - 1,
-        },
-    )
+    let longest = tally.longest;
+    let tally = Tally {
+        left: left - 1,
+        longest,
+    };
+    Drawn::Value(s.value, Draws { random, tally })
+}
+
+// The draws after a search that made so many.
+pub fn after_search(d: Draws, made: u32) -> Draws
+    ensures { λ r. ⌜ r ≡ searched made d ⌝ }
+{
+    let random = d.random;
+    let tally = d.tally;
+    let left = tally.left;
+    let before = tally.longest;
+    let longest = if before < made { made } else { before };
+    let tally = Tally { left, longest };
+    Draws { random, tally }
 }
 
 // `next_int_range` of a value: a number from min up to, and without, max.

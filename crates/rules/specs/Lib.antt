@@ -1,4 +1,7 @@
--- The language of the conversion's rules (`Rule`), what a refused object is refused by (`Refusal`), and what holds of every rule (`Laws`).
+-- The language of the conversion's rules (`Rule`), what a refused object is refused by (`Refusal`), how the values that a rule takes divide among its
+-- searches (`Ledger`), the limit of its searches (`Limited`), and what holds of every rule (`Laws`).
 pub mod Rule
 pub mod Refusal
+pub mod Ledger
+pub mod Limited
 pub mod Laws

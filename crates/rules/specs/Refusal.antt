@@ -12,12 +12,15 @@ pub data Refusal : Type 0 where
   offDeck : Refusal
   -- the chart buffer is too short
   tooShort : Refusal
+  -- one search needs a draw beyond its limit
+  longSearch : Refusal
 
 abbrev pub number : Refusal → ℕ
 number lateEnd = 8
 number noColumn = 9
 number offDeck = 10
 number tooShort = 11
+number longSearch = 16
 
 -- a draw is needed and none is left
 abbrev pub spentNumber : ℕ

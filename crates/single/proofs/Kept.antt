@@ -6,7 +6,7 @@ use mathlib.Core.List.{List}
 use lib.Dec.{ltb}
 use lib.ListN.{length}
 use Rattle.rules.specs.Refusal.{number, spentNumber}
-use Rattle.random.specs.Play.{found, on}
+use Rattle.random.specs.Play.{found, tallied, on}
 use Rattle.random.specs.Laws.Allowance.{found-run}
 use Rattle.random.specs.declared.Random.{Random}
 use Rattle.random.specs.declared.Draws.{Draws}
@@ -43,13 +43,13 @@ asks f v columns o m n e w s =
 
 -- a rule leaves no more draws than it was lent
 pub left-in : (f : Facts) (v : PrevValues) (columns : ℕ) (o : Object) (r : Random) (a : ℕ) (words : List ℕ) (p : Pattern) (stair : Stair) (e : Draws)
-    → found (madeBy (noteAt o) words p stair) e ≡ on (object f v columns o) (record { random = r; left = a }) → e .left ≤ a
+    → found (madeBy (noteAt o) words p stair) e ≡ on (object f v columns o) (tallied a 0 r) → e .tally .left ≤ a
 left-in f v columns o r a words p stair e says =
-    found-run (λ p. spentNumber) number (object f v columns o) (record { random = r; left = a }) (madeBy (noteAt o) words p stair) e (sym says) .1
+    found-run (λ p. spentNumber) number (object f v columns o) (tallied a 0 r) (madeBy (noteAt o) words p stair) e (sym says) .1
 
 module _ (f : Facts) (v : PrevValues) (columns : ℕ) (o : Object) (r : Random) (a : ℕ) (entry exit words : List ℕ) (p : Pattern) (stair : Stair) (e : Draws)
     (passes : entryRefusal f v columns o ≡ 0) (size : p .count ≤ length words)
-    (says : found (madeBy (noteAt o) words p stair) e ≡ on (object f v columns o) (record { random = r; left = a })) where
+    (says : found (madeBy (noteAt o) words p stair) e ≡ on (object f v columns o) (tallied a 0 r)) where
   longer : (b : Bool) → ltb (length entry) (17 * p .count) ≡ b → ltb (length entry) (17 * length (madeBy (noteAt o) words p stair .notes)) ≡ b
   longer b l = subst (λ (n : ℕ). ltb (length entry) (17 * n) ≡ b) (sym (note-count (noteAt o) words (p .count) size)) l
 
@@ -58,5 +58,5 @@ module _ (f : Facts) (v : PrevValues) (columns : ℕ) (o : Object) (r : Random) 
   ended-single x (full l same k) = ap₂ singleEnd same k ∙ sym (single-full f v columns o r a entry passes (madeBy (noteAt o) words p stair) e (sym says) (longer true l))
   ended-single x (kept l same k) =
       ap₂ singleEnd same k
-      ∙ ap {B = Single} (λ (n : ℕ). record { answer = made n (p .mask) (p .last) stair (e .random) (a - e .left); notes = written (body (madeBy (noteAt o) words p stair .notes)) entry }) (sym (note-count (noteAt o) words (p .count) size))
+      ∙ ap {B = Single} (λ (n : ℕ). record { answer = made n (p .mask) (p .last) stair (e .random) (a - e .tally .left); notes = written (body (madeBy (noteAt o) words p stair .notes)) entry }) (sym (note-count (noteAt o) words (p .count) size))
       ∙ sym (single-made f v columns o r a entry passes (madeBy (noteAt o) words p stair) e (sym says) (longer false l))

@@ -24,4 +24,4 @@ singleEnd notes (E.Refused n random) = record { answer = refusal n random; notes
 pub data Keeps (entry exit words : List ℕ) (o : Object) (p : Pattern) (stair : Stair) (lent : Random) (allowance : ℕ) (e : Draws) (r : SingleEnd) : Type 0 where
   full : ltb (length entry) (17 * p .count) ≡ true → exit ≡ entry → r ≡ E.Refused 11 lent → Keeps entry exit words o p stair lent allowance e r
   kept : ltb (length entry) (17 * p .count) ≡ false → exit ≡ written (body (map (noteAt o) (take (p .count) words))) entry
-      → r ≡ E.Made (p .count) (p .mask) (p .last) stair (e .random) (allowance - e .left) → Keeps entry exit words o p stair lent allowance e r
+      → r ≡ E.Made (p .count) (p .mask) (p .last) stair (e .random) (allowance - e .tally .left) → Keeps entry exit words o p stair lent allowance e r

@@ -12,6 +12,7 @@ use pattern::ObjectEnd;
 use pattern::Pattern;
 use random::Draws;
 use random::Random;
+use random::Tally;
 
 // How the entry ends: the number of notes, the new mask, last column and stair, the state and the draws; or a refusal's number and the state that was lent.
 pub enum SingleEnd {
@@ -30,7 +31,7 @@ fn keep(
     e: Draws,
     notes: &mut [u8],
 ) -> SingleEnd
-    requires { ⌜ (p .count ≤ 2050) × (2050 ≤ length (now words)) × (e .left ≤ allowance) ⌝ }
+    requires { ⌜ (p .count ≤ 2050) × (2050 ≤ length (now words)) × (e .tally .left ≤ allowance) ⌝ }
     ensures { λ r. ⌜ Keeps (now (notes .entry)) (now (notes .exit)) (now (words .entry)) o p stair lent allowance e r ⌝ }
 {
     let count = p.count;
@@ -39,13 +40,14 @@ fn keep(
     }
     notes::put_notes(o, words, count, notes, 0);
     let random = e.random;
+    let after = e.tally;
     SingleEnd::Made(
         count as u32,
         p.mask,
         p.last,
         stair,
         random,
-        allowance - e.left,
+        allowance - after.left,
     )
 }
 
@@ -64,9 +66,13 @@ fn generate(
 {
     let mut words: [u64; 2050] = [0; 2050];
     let mut spare: [u64; 2050] = [0; 2050];
+    let tally = Tally {
+        left: allowance,
+        longest: 0,
+    };
     let d = Draws {
         random: lent,
-        left: allowance,
+        tally,
     };
     match object::generate(f, v, columns, o, &mut words, &mut spare, d) {
         ObjectEnd::Made(p, stair, e) => keep(o, &words, p, stair, lent, allowance, e, notes),

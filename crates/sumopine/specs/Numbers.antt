@@ -7,24 +7,24 @@ use Rattle.chart.specs.Chart.{Reading}
 use Rattle.chart.specs.Chart as Chart
 use Rattle.mania.specs.Job.{Answer, accepted, refusal}
 
--- ---- a job: the refusal's number, 0 for none; the chart's length, 0 after a refusal; the object's index and the draws so far,
--- 0 where there is a chart, which has its draws
+-- ---- a job: the refusal's number, 0 for none; the chart's length, 0 after a refusal; the object's index, 0 where there is a chart; the most draws
+-- of one search, 0 after a refusal
 
 abbrev pub numberOf : Answer → ℕ
-numberOf (accepted length) = 0
+numberOf (accepted length longest) = 0
 numberOf (refusal n i d) = n
 
 abbrev pub lengthOf : Answer → ℕ
-lengthOf (accepted length) = length
+lengthOf (accepted length longest) = length
 lengthOf (refusal n i d) = 0
 
 abbrev pub objectOf : Answer → ℕ
-objectOf (accepted length) = 0
+objectOf (accepted length longest) = 0
 objectOf (refusal n i d) = i
 
-abbrev pub drawsOf : Answer → ℕ
-drawsOf (accepted length) = 0
-drawsOf (refusal n i d) = d
+abbrev pub longestOf : Answer → ℕ
+longestOf (accepted length longest) = longest
+longestOf (refusal n i d) = 0
 
 -- ---- a chart that is read: the refusal's number, 0 for none; the header's numbers, 0 after a refusal
 

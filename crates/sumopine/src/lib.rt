@@ -9,11 +9,22 @@ use chart::Found;
 use convert::JobEnd;
 ghost use mathlib.Core.Path.{_≡_};
 ghost use mathlib.Core.Bool.{cond};
+ghost use Prim.Native.Nat.{_≤_};
+ghost use lib.ListN.{length};
 ghost use Rattle.job.specs.Job.{job};
-ghost use Rattle.chart.specs.Chart.{reading, noteIn};
-ghost use Rattle.sumopine.specs.Numbers.{numberOf, lengthOf, objectOf, drawsOf, readNumber, readColumns, readNotes, readDraws, isFound, columnIn, holdIn, startIn, durationIn};
+ghost use Rattle.job.specs.Job as Job;
+ghost use Rattle.chart.specs.Chart.{drawsOf, reading, noteIn};
+ghost use Rattle.sumopine.specs.Numbers.{numberOf, lengthOf, objectOf, longestOf, readNumber, readColumns, readNotes, readDraws, isFound, columnIn, holdIn, startIn, durationIn};
 
-// A job, of a record's bytes: 0 and the chart's length, or the refusal's number, the object's index and the draws so far.
+// The draws in a chart's header.
+fn draws_in(chart: &[u8]) -> u32
+    requires { ⌜ 8 ≤ length (now chart) ⌝ }
+    ensures { λ r. ⌜ r ≡ drawsOf (now (chart .entry)) ⌝ }
+{
+    chart::bytes::get(chart, 4, 4) as u32
+}
+
+// A job, of a record's bytes: 0, the chart's length and the most draws of one search, or the refusal's number and the object's index; and the draws made.
 #[no_mangle]
 pub extern "C" fn sumopine_convert(
     bytes: &[u8],
@@ -22,24 +33,28 @@ pub extern "C" fn sumopine_convert(
     length: &mut u64,
     object: &mut u32,
     draws: &mut u32,
+    longest_search: &mut u32,
 ) -> u32
     ensures { λ r. ⌜ r ≡ numberOf (job (now (bytes .entry)) (now (chart .entry)) allowance .answer) ⌝ }
     ensures { λ _. ⌜ now (length .exit) ≡ lengthOf (job (now (bytes .entry)) (now (chart .entry)) allowance .answer) ⌝ }
     ensures { λ _. ⌜ now (object .exit) ≡ objectOf (job (now (bytes .entry)) (now (chart .entry)) allowance .answer) ⌝ }
-    ensures { λ _. ⌜ now (draws .exit) ≡ drawsOf (job (now (bytes .entry)) (now (chart .entry)) allowance .answer) ⌝ }
+    ensures { λ _. ⌜ now (draws .exit) ≡ Job.draws (now (bytes .entry)) (now (chart .entry)) allowance ⌝ }
+    ensures { λ _. ⌜ now («longest_search» .exit) ≡ longestOf (job (now (bytes .entry)) (now (chart .entry)) allowance .answer) ⌝ }
     ensures { λ _. ⌜ now (chart .exit) ≡ job (now (bytes .entry)) (now (chart .entry)) allowance .chart ⌝ }
 {
     match convert::convert(bytes, chart, allowance) {
-        JobEnd::Chart(n) => {
+        JobEnd::Chart(n, g) => {
             *length = n as u64;
             *object = 0;
-            *draws = 0;
+            *draws = draws_in(chart);
+            *longest_search = g;
             0
         }
         JobEnd::Refused(k, i, d) => {
             *length = 0;
             *object = i;
             *draws = d;
+            *longest_search = 0;
             k as u32
         }
     }

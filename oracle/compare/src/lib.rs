@@ -1,4 +1,4 @@
-//! Inputs for a comparison: buffers that are not zero, so that bytes which should keep their values show.
+//! Inputs for a comparison: buffers that are not zero, so that bytes which should keep their values show. Recorded answers.
 
 use entry::JobEnd;
 use jobs::{Need, Rng};
@@ -18,7 +18,7 @@ pub fn job(rng: &mut Rng, plenty: &mut [u8]) -> Job {
     let damaged = rng.percent(25);
     let record = if damaged { jobs::damaged(rng) } else { jobs::record(rng) };
     let need = match second::job(&record, plenty, 1_000_000) {
-        JobEnd::Chart { length } => {
+        JobEnd::Chart { length, .. } => {
             let chart = second::read_chart(&plenty[..length]).expect("a written chart is read");
             Some(Need { draws: chart.draws, length })
         }
@@ -32,6 +32,15 @@ pub fn job(rng: &mut Rng, plenty: &mut [u8]) -> Job {
 /// Bytes that are not zero, and not all alike.
 pub fn lent_bytes(length: usize) -> Vec<u8> {
     (0..length).map(|i| (i % 251) as u8 + 1).collect()
+}
+
+/// An entry of a list that the program `vectors` replays: what goes in, numbers of 32 bits, and the bytes that are due, each behind its
+/// length in 32 bits. All numbers have their highest byte first; the first three are the buffer's length, the allowance and the answer's.
+pub fn entry(input: &[u8], numbers: &[u32], due: &[u8]) -> Vec<u8> {
+    let numbers: Vec<u8> = numbers.iter().flat_map(|number| number.to_be_bytes()).collect();
+    let part = |part: &[u8]| [&(part.len() as u32).to_be_bytes(), part].concat();
+
+    [part(input), part(&numbers), part(due)].concat()
 }
 
 #[cfg(test)]

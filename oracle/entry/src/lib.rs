@@ -5,8 +5,9 @@
 #[derive(Clone, Copy, Debug, PartialEq, Eq)]
 pub enum JobEnd {
     /// A chart of `length` bytes from the buffer's start; later bytes keep their values.
-    Chart { length: usize },
-    /// Refusals 1 to 8, 9, 10, 11, 12. `object` and `draws` are 0 before the walk.
+    /// `longest_search` is the most draws that one column search made.
+    Chart { length: usize, longest_search: u32 },
+    /// Refusals 1 to 12 and 16. `object` and `draws` are 0 before the walk.
     Refused { number: u8, object: u32, draws: u32 },
 }
 

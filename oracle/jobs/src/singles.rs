@@ -33,6 +33,13 @@ const HOLD_CHANCES: &[f64] = &[
 /// Bounds of the conversion difficulty.
 const DIFFICULTIES: &[f64] = &[2.0, 2.5, 3.0, 4.0, 6.5, 12.0];
 
+const ZEROS: State = State {
+    x: 0,
+    y: 0,
+    z: 0,
+    w: 0,
+};
+
 /// A state whose first three values are the given ones (31 bits each), with its last word free.
 pub fn state_giving(values: [u32; 3], tops: [bool; 3], w: u32) -> State {
     // t from t ^ t >> 8, then x from x ^ x << 11.
@@ -206,7 +213,7 @@ pub fn single(rng: &mut Rng) -> (Single, usize) {
         Focus::Holds => HOLD_CHANCES,
         _ => CHANCES,
     };
-    let single = Single {
+    let mut single = Single {
         x: place.0,
         y: place.1,
         start,
@@ -250,6 +257,14 @@ pub fn single(rng: &mut Rng) -> (Single, usize) {
             _ => 20_000,
         },
     };
+    // Zeros give only zeros, so a search may reach its limit, most often near the allowance.
+    if rng.percent(2) {
+        single.state = ZEROS;
+        single.allowance = match rng.below(4) {
+            0 => single.allowance,
+            _ => rng.between(4094, 4104) as u32,
+        };
+    }
     let buffer = match rng.below(10) {
         0 => rng.index(18),
         1 => 17 * rng.index(6),
@@ -268,16 +283,6 @@ pub fn damaged_single(rng: &mut Rng) -> (Single, usize) {
 
     for _ in 0..faults {
         fault(rng, &mut ask);
-    }
-
-    // A state of zeros gives zeros only, so a search may take all that is allowed.
-    if rng.percent(2) {
-        ask.state = State {
-            x: 0,
-            y: 0,
-            z: 0,
-            w: 0,
-        };
     }
 
     (ask, buffer)

@@ -119,8 +119,8 @@ fn separations_lie_around_20_often() {
 #[test]
 fn damage_meets_each_refusal() {
     let mut rng = Rng::new(11);
-    let mut jobs = [0; 15];
-    let mut singles = [0; 15];
+    let mut jobs = [0; 17];
+    let mut singles = [0; 17];
     let mut buffer = vec![0; 1 << 18];
 
     for _ in 0..5000 {

@@ -17,6 +17,7 @@ mod c {
             length: *mut u64,
             object: *mut u32,
             draws: *mut u32,
+            longest_search: *mut u32,
         ) -> u32;
         pub fn sumopine_read_chart(chart: *const u8, chart_len: usize, columns: *mut u32, notes: *mut u32, draws: *mut u32) -> u32;
         pub fn sumopine_note(
@@ -31,28 +32,32 @@ mod c {
     }
 }
 
-/// The four numbers that a job gives to the host.
+/// The five numbers that a job gives to the host.
 #[derive(Clone, Copy, Debug, PartialEq, Eq)]
 pub struct Numbers {
     pub number: u32,
     pub length: u64,
     pub object: u32,
     pub draws: u32,
+    pub longest_search: u32,
 }
 
-/// What include/sumopine.h says of each case.
-impl From<JobEnd> for Numbers {
-    fn from(end: JobEnd) -> Self {
+/// What include/sumopine.h says of each case. A chart has its draws in its header.
+impl Numbers {
+    pub fn of(end: JobEnd, chart: &[u8]) -> Self {
         match end {
-            JobEnd::Chart { length } => Self { number: 0, length: length as u64, object: 0, draws: 0 },
-            JobEnd::Refused { number, object, draws } => Self { number: number.into(), length: 0, object, draws },
+            JobEnd::Chart { length, longest_search } => {
+                let draws = u32::from_be_bytes([chart[4], chart[5], chart[6], chart[7]]);
+                Self { number: 0, length: length as u64, object: 0, draws, longest_search }
+            }
+            JobEnd::Refused { number, object, draws } => Self { number: number.into(), length: 0, object, draws, longest_search: 0 },
         }
     }
 }
 
 /// `sumopine_convert`. The outputs are lent with all bits set, so that one that is not written shows.
 pub fn convert(record: &[u8], chart: &mut [u8], allowance: u32) -> Numbers {
-    let (mut length, mut object, mut draws) = (u64::MAX, u32::MAX, u32::MAX);
+    let (mut length, mut object, mut draws, mut longest_search) = (u64::MAX, u32::MAX, u32::MAX, u32::MAX);
     let number = unsafe {
         c::sumopine_convert(
             record.as_ptr(),
@@ -63,10 +68,11 @@ pub fn convert(record: &[u8], chart: &mut [u8], allowance: u32) -> Numbers {
             &mut length,
             &mut object,
             &mut draws,
+            &mut longest_search,
         )
     };
 
-    Numbers { number, length, object, draws }
+    Numbers { number, length, object, draws, longest_search }
 }
 
 /// `sumopine_read_chart`: its result, then columns, notes and draws.

@@ -43,7 +43,7 @@ fn same_job(record: &[u8], buffer: &[u8], allowance: u32) -> (JobEnd, Vec<u8>, b
     let end = reference::job(record, &mut expected, allowance);
     let (mut lent, mut chart) = (Guarded::new(record), Guarded::new(buffer));
     let numbers = library::convert(lent.inner(), chart.inner(), allowance);
-    let same = numbers == Numbers::from(end) && chart.holds(&expected) && lent.holds(record);
+    let same = numbers == Numbers::of(end, &expected) && chart.holds(&expected) && lent.holds(record);
 
     (end, expected, same)
 }
@@ -92,7 +92,7 @@ fn jobs_alike(rng: &mut Rng, count: u64, tally: &mut Tally) {
         let job = compare::job(rng, &mut plenty);
         let (end, chart, same) = same_job(&job.record, &job.buffer, job.allowance);
         let read = match end {
-            JobEnd::Chart { length } => same_chart(&chart[..length]),
+            JobEnd::Chart { length, .. } => same_chart(&chart[..length]),
             JobEnd::Refused { .. } => true,
         };
         tally.count("job", index, &name(end), same && read);
@@ -113,7 +113,8 @@ fn allowances_alike(rng: &mut Rng, count: u64, tally: &mut Tally) -> u64 {
     let (mut done, mut runs) = (0, 0);
     while done < count {
         let record = jobs::record(rng);
-        let JobEnd::Chart { length } = second::job(&record, &mut plenty, 1_000_000) else { continue };
+        let whole = second::job(&record, &mut plenty, 1_000_000);
+        let JobEnd::Chart { length, .. } = whole else { continue };
         let draws = second::read_chart(&plenty[..length]).expect("a written chart is read").draws;
         if draws > SMALL {
             continue;
@@ -121,7 +122,7 @@ fn allowances_alike(rng: &mut Rng, count: u64, tally: &mut Tally) -> u64 {
         let buffer = lent_bytes(length + rng.index(40));
         for allowance in 0..=draws + 2 {
             let (end, _, same) = same_job(&record, &buffer, allowance);
-            tally.count("allowance", done, &name(end), same && (allowance < draws) == (end != JobEnd::Chart { length }));
+            tally.count("allowance", done, &name(end), same && (allowance < draws) == (end != whole));
             runs += 1;
         }
         done += 1;

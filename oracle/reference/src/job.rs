@@ -8,13 +8,14 @@ use crate::{
     mania::convert::convert,
     record,
     stop::{ends_too_late, guarded},
-    util::random::osu::{ALLOWANCE, DRAWS},
+    util::random::osu::{ALLOWANCE, DRAWS, LONGEST_SEARCH},
 };
 
-/// How a walk over the first objects ends, and the draws it took.
+/// How a walk over the first objects ends, the draws it took and the most of one search.
 pub struct Walk {
     pub end: Result<Beatmap, u8>,
     pub draws: u64,
+    longest_search: u64,
 }
 
 /// Runs `convert` on the first objects only. It pairs objects with sounds, so with fewer sounds it
@@ -33,7 +34,7 @@ fn walk_all(mut map: Beatmap, mods: &GameMods, allowance: u64) -> Walk {
         map
     });
 
-    Walk { end, draws: DRAWS.get() }
+    Walk { end, draws: DRAWS.get(), longest_search: LONGEST_SEARCH.get() }
 }
 
 fn room(notes: usize) -> usize {
@@ -86,7 +87,7 @@ fn try_job(record: &[u8], chart: &mut [u8], allowance: u64) -> JobEnd {
                 let length = room(notes.len());
                 write_notes(notes, &mut chart[HEAD..]);
 
-                JobEnd::Chart { length }
+                JobEnd::Chart { length, longest_search: whole.longest_search as u32 }
             }
             (None, Err(_)) => unreachable!("a walk that ends in a refusal stops"),
         };

@@ -24,7 +24,7 @@ use crate::{
         BEAT_LENGTH, DISTANCE, DURATION, MULTIPLIER, POSITION, START, VELOCITY, within32, within64,
     },
     stop::{ends_too_late, guarded},
-    util::random::osu::Random,
+    util::random::osu::{DRAWS, Random},
 };
 
 /// The first refusal among 13, 4, 5 and 6.
@@ -268,6 +268,6 @@ fn try_single(ask: &Single, buffer: &mut [u8]) -> Result<SingleEnd, u8> {
         last: made.last,
         reverse_stair: made.reverse_stair,
         state: State { x, y, z, w },
-        draws: random.draws() as u32,
+        draws: DRAWS.get() as u32,
     })
 }

@@ -1,11 +1,6 @@
-//! Where the unchanged Rust stops: refusals 8, 9, 10 and 12.
+//! Where the unchanged Rust stops: refusals 8, 9, 10, 12 and 16.
 
-use std::{
-    any::Any,
-    cell::Cell,
-    panic::{self, AssertUnwindSafe},
-    sync::Once,
-};
+use std::panic::{self, AssertUnwindSafe};
 
 use rosu_map::util::OffDeck;
 
@@ -16,47 +11,23 @@ use crate::{
         hit_object::{HitObject, HitObjectKind},
     },
     ranges::LAST,
-    util::{get_precision_adjusted_beat_len, random::osu::Spent},
+    util::{
+        get_precision_adjusted_beat_len,
+        random::osu::{LongSearch, NoColumn, Spent},
+    },
 };
 
-thread_local! {
-    static GUARDED: Cell<bool> = const { Cell::new(false) };
-}
-
-/// The assertion of every column search.
-fn is_search_assertion(payload: &(dyn Any + Send)) -> bool {
-    payload.downcast_ref::<&str>() == Some(&"assertion failed: has_valid_column")
-}
-
-// The assertion is a refusal here, so it prints nothing; other panics keep their hook.
-fn silence_assertion() {
-    static HOOK: Once = Once::new();
-
-    HOOK.call_once(|| {
-        let before = panic::take_hook();
-
-        panic::set_hook(Box::new(move |info| {
-            if !(GUARDED.get() && is_search_assertion(info.payload())) {
-                before(info);
-            }
-        }));
-    });
-}
-
-/// Runs unchanged code to its end, or to the refusal it stops with. Any other panic goes on.
+/// Runs unchanged code to its end, or to the refusal it stops with. A panic goes on.
 pub fn guarded<T>(run: impl FnOnce() -> T) -> Result<T, u8> {
-    silence_assertion();
-    GUARDED.set(true);
-    let end = panic::catch_unwind(AssertUnwindSafe(run));
-    GUARDED.set(false);
-
-    end.map_err(|payload| {
-        if is_search_assertion(&*payload) {
+    panic::catch_unwind(AssertUnwindSafe(run)).map_err(|payload| {
+        if payload.is::<NoColumn>() {
             9
         } else if payload.is::<OffDeck>() {
             10
         } else if payload.is::<Spent>() {
             12
+        } else if payload.is::<LongSearch>() {
+            16
         } else {
             panic::resume_unwind(payload)
         }

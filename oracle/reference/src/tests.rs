@@ -47,7 +47,7 @@ fn run(record: &[u8], buffer: usize, allowance: u32) -> (JobEnd, Option<Chart>) 
             assert!(bytes.iter().all(|byte| *byte == 0));
             (end, None)
         }
-        JobEnd::Chart { length } => {
+        JobEnd::Chart { length, .. } => {
             assert!(bytes[length..].iter().all(|byte| *byte == 0xA5));
             (end, Some(read_chart(&bytes[..length]).expect("a written chart reads back")))
         }
@@ -236,7 +236,7 @@ fn reverse() {
 fn charttext() {
     let song = Song { key_choice: 9, objects: vec![object(1000.0, hold(300.0))], ..plain() };
     let (end, chart) = run(&song.bytes(), 65_536, 1_000_000);
-    assert_eq!(end, JobEnd::Chart { length: 25 });
+    assert_eq!(end, JobEnd::Chart { length: 25, longest_search: 0 });
     assert_eq!(
         chart,
         Some(Chart {
@@ -461,6 +461,33 @@ fn refusal_12() {
     assert_eq!(refusal(&song.bytes(), 1000, 0), (12, 0, 0));
     assert_eq!(refusal(&song.bytes(), 1000, 1), (0, 0, 0));
     assert_eq!(single_number(&Single { allowance: 0, ..ask(hold(300.0)) }), 12);
+}
+
+// Zeros give only zeros: the first draw is the hold's own column, 0, which is taken, and no draw of the search leaves it.
+#[test]
+fn refusal_16() {
+    let state = State { x: 0, y: 0, z: 0, w: 0 };
+    let stuck =
+        |allowance| single_number(&Single { prev_mask: 1, state, allowance, ..ask(hold(300.0)) });
+    assert_eq!([0, 1, 4095, 4096].map(stuck), [12; 4]);
+    assert_eq!([4097, 4098, 1_000_000].map(stuck), [16; 3]);
+}
+
+// A hold draws its own column; its other draws, here by songs that are one hold longer each, are its search's.
+#[test]
+fn longest_search() {
+    let mut song = Song { key_choice: 2, objects: vec![object(1000.0, Kind::Circle)], ..plain() };
+    let (mut before, mut longest, mut growths) = (chart(&song).draws, 0, 0);
+    for second in 2..100 {
+        song.objects.push(object(f64::from(second) * 1000.0, hold(300.0)));
+        let (end, chart) = run(&song.bytes(), 1 << 12, 1000);
+        let draws = chart.unwrap().draws;
+        let search = draws - before - 1;
+        growths += u32::from(search > longest);
+        (before, longest) = (draws, longest.max(search));
+        assert!(matches!(end, JobEnd::Chart { longest_search, .. } if longest_search == longest));
+    }
+    assert!(growths > 1 && longest < 90);
 }
 
 #[test]
@@ -853,7 +880,7 @@ fn job_is_a_walk_of_singles() {
         assert_eq!(convert_only(&record), Some((whole.notes.len() as u32, whole.draws)));
 
         let length = 8 + 17 * whole.notes.len();
-        assert_eq!(run(&record, length, whole.draws).0, JobEnd::Chart { length });
+        assert_eq!(run(&record, length, whole.draws).0, end);
 
         // With fewer draws the objects before the one that stops still get theirs.
         if whole.draws > 0 {
@@ -951,7 +978,7 @@ fn some_ask(dice: &mut Dice) -> Single {
 #[test]
 fn singles_keep_their_word() {
     let mut dice = Dice(2);
-    let mut met = [0; 15];
+    let mut met = [0; 17];
     for _ in 0..40_000 {
         let ask = some_ask(&mut dice);
         let (end, notes) = made(&ask, dice.of(&[1, 2100, 2100]));

@@ -231,7 +231,7 @@ fn walk(song: &Song, columns: i32, room: usize, draws: &mut Draws) -> Result<Vec
 
 pub fn job(record: &[u8], chart: &mut [u8], allowance: u32) -> JobEnd {
     let refused = |refusal: Refusal, object: usize, draws: u32, chart: &mut [u8]| {
-        hit(B::JOB[refusal.number() as usize - 1]);
+        hit(B::JOB[refusal as usize]);
         chart.fill(0);
         JobEnd::Refused {
             number: refusal.number(),
@@ -272,7 +272,10 @@ pub fn job(record: &[u8], chart: &mut [u8], allowance: u32) -> JobEnd {
             }
 
             hit(B::job_chart);
-            JobEnd::Chart { length }
+            JobEnd::Chart {
+                length,
+                longest_search: draws.longest_search,
+            }
         }
         Err(Stop { refusal, object }) => refused(refusal, object, draws.taken, chart),
     }
@@ -432,7 +435,7 @@ pub fn single(ask: &Single, buffer: &mut [u8]) -> SingleEnd {
             }
         }
         Err(refusal) => {
-            hit(B::SINGLE[refusal.number() as usize - 1]);
+            hit(B::SINGLE[refusal as usize]);
             SingleEnd::Refused {
                 number: refusal.number(),
                 state: ask.state,

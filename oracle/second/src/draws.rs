@@ -11,6 +11,8 @@ use crate::{
 pub struct Draws {
     pub state: State,
     pub taken: u32,
+    /// The most draws that one search made.
+    pub longest_search: u32,
     allowance: u32,
 }
 
@@ -19,6 +21,7 @@ impl Draws {
         Self {
             state,
             taken: 0,
+            longest_search: 0,
             allowance,
         }
     }

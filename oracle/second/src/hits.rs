@@ -191,6 +191,7 @@ branches! {
     search_beside_drawn
     search_gathered_wrapped
     search_again
+    search_too_long
     // Circles.
     circle_caps_other
     circle_caps_2
@@ -372,6 +373,7 @@ branches! {
     job_refused_11
     job_refused_12
     job_refused_13
+    job_refused_16
     single_refused_1
     single_refused_2
     single_refused_3
@@ -385,6 +387,7 @@ branches! {
     single_refused_11
     single_refused_12
     single_refused_13
+    single_refused_16
 }
 
 impl B {
@@ -402,8 +405,8 @@ impl B {
         }
     }
 
-    /// A job's refusals, by number less one.
-    pub(crate) const JOB: [Self; 13] = [
+    /// A job's refusals, by `Refusal`.
+    pub(crate) const JOB: [Self; 14] = [
         Self::job_refused_1,
         Self::job_refused_2,
         Self::job_refused_3,
@@ -417,10 +420,11 @@ impl B {
         Self::job_refused_11,
         Self::job_refused_12,
         Self::job_refused_13,
+        Self::job_refused_16,
     ];
 
-    /// The single entry's refusals, by number less one.
-    pub(crate) const SINGLE: [Self; 13] = [
+    /// The single entry's refusals, by `Refusal`.
+    pub(crate) const SINGLE: [Self; 14] = [
         Self::single_refused_1,
         Self::single_refused_2,
         Self::single_refused_3,
@@ -434,6 +438,7 @@ impl B {
         Self::single_refused_11,
         Self::single_refused_12,
         Self::single_refused_13,
+        Self::single_refused_16,
     ];
 }
 
@@ -475,6 +480,10 @@ pub const NEVER: &[(&str, &str)] = &[
         "a song makes no such pattern (change request 9)",
     ),
     ("job_refused_13", "the single entry only"),
+    (
+        "job_refused_16",
+        "from a seed, 4,096 misses in a row have a chance below 10^-200",
+    ),
     ("single_refused_1", "no record"),
     ("single_refused_2", "no record"),
     ("single_refused_3", "no record"),

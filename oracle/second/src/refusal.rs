@@ -1,4 +1,4 @@
-//! Document 01's refusals. 14 is the chart reader's `None`.
+//! The refusals of documents 01 and 02 that the three entries give. 14 is the chart reader's `None`.
 
 #[derive(Clone, Copy, Debug, PartialEq, Eq)]
 pub enum Refusal {
@@ -15,6 +15,7 @@ pub enum Refusal {
     BufferShort,
     NoDrawLeft,
     Previous,
+    LongSearch,
 }
 
 impl Refusal {
@@ -33,6 +34,7 @@ impl Refusal {
             Self::BufferShort => 11,
             Self::NoDrawLeft => 12,
             Self::Previous => 13,
+            Self::LongSearch => 16,
         }
     }
 }

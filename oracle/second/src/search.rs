@@ -7,6 +7,9 @@ use crate::{
     refusal::Refusal,
 };
 
+/// The most draws of one search (document 02, change request 7).
+const LIMIT: u32 = 4096;
+
 /// Which columns a search may take, and how it goes on. Masks are the columns taken.
 #[derive(Clone, Copy, Debug)]
 pub enum Rule {
@@ -117,7 +120,7 @@ impl Rule {
         (first_column(columns), limit)
     }
 
-    /// The search: its own column, then whether the range has a valid one, then draws or steps.
+    /// The search: its own column, then whether the range has a valid one, then draws or steps. Its draws are counted, and end at the limit.
     pub fn find(self, own: i32, columns: i32, draws: &mut Draws) -> Result<i32, Refusal> {
         let rows = self.rows();
 
@@ -134,6 +137,7 @@ impl Rule {
         }
 
         let mut column = own;
+        let mut made = 0;
 
         loop {
             column = match self {
@@ -142,11 +146,19 @@ impl Rule {
                     lower
                 }
                 Self::Gathered(_) => column + 1,
-                _ => draws.range(lower, upper)?,
+                _ if made == LIMIT => {
+                    hit(B::search_too_long);
+                    return Err(Refusal::LongSearch);
+                }
+                _ => {
+                    made += 1;
+                    draws.range(lower, upper)?
+                }
             };
 
             if self.valid(column) {
                 hit(rows.2);
+                draws.longest_search = draws.longest_search.max(made);
                 return Ok(column);
             }
 

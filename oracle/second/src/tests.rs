@@ -345,7 +345,10 @@ fn refusal_4() {
                 multiplier,
                 ..Song::default()
             }),
-            JobEnd::Chart { length: 8 }
+            JobEnd::Chart {
+                length: 8,
+                longest_search: 0
+            }
         );
     }
     // The setting comes before the record's end.
@@ -380,7 +383,10 @@ fn refusal_5() {
             breaks: vec![(1.0, 1.0)],
             ..Song::default()
         }),
-        JobEnd::Chart { length: 8 }
+        JobEnd::Chart {
+            length: 8,
+            longest_search: 0
+        }
     );
     // A bad break start with a cut end is 5.
     let bytes = Song {
@@ -470,7 +476,10 @@ fn refusal_8() {
             ..Song::default()
         })
     };
-    assert_eq!(end(16_777_216.0 / 160.0), JobEnd::Chart { length: 25 });
+    assert!(matches!(
+        end(16_777_216.0 / 160.0),
+        JobEnd::Chart { length: 25, .. }
+    ));
     assert_eq!(end(16_777_217.0 / 160.0), refused(8, 0, 0));
 }
 
@@ -683,8 +692,12 @@ fn refusal_11() {
         panic!()
     };
     assert!(draws >= 2);
-    assert_eq!(end(42, 99), (JobEnd::Chart { length: 42 }, 0));
-    assert_eq!(end(50, 99), (JobEnd::Chart { length: 42 }, 8));
+    let chart = JobEnd::Chart {
+        length: 42,
+        longest_search: 0,
+    };
+    assert_eq!(end(42, 99), (chart, 0));
+    assert_eq!(end(50, 99), (chart, 8));
     // The record comes before the buffer, the buffer before the walk.
     let mut chart = [0xaa; 7];
     assert_eq!(job(&[0x2a], &mut chart, 0), refused(2, 0, 0));
@@ -708,20 +721,63 @@ fn refusal_12() {
         }),
         12
     );
-    // A state of zeros never leaves a column that is taken.
+}
+
+// A state of zeros never leaves a column that is taken. The hold's own column is drawn before its search.
+#[test]
+fn refusal_16() {
     let zeros = State {
         x: 0,
         y: 0,
         z: 0,
         w: 0,
     };
-    let stuck = Single {
-        kind: Kind::Hold { duration: 1.0 },
-        prev_mask: 1,
-        state: zeros,
-        ..ask()
+    let stuck = |allowance| {
+        single_refused(&Single {
+            kind: Kind::Hold { duration: 1.0 },
+            prev_mask: 1,
+            state: zeros,
+            allowance,
+            ..ask()
+        })
     };
-    assert_eq!(single_refused(&stuck), 12);
+    assert_eq!([0, 1, 4095, 4096].map(stuck), [12; 4]);
+    assert_eq!([4097, 4098, 1_000_000].map(stuck), [16; 3]);
+}
+
+// A hold draws its own column; its other draws, here by songs that are one hold longer each, are its search's.
+#[test]
+fn longest_search() {
+    let mut song = Song {
+        key_choice: 2,
+        objects: vec![CIRCLE],
+        ..Song::default()
+    };
+    let end = |song: &Song| {
+        let mut bytes = [0; 2000];
+        let JobEnd::Chart {
+            length,
+            longest_search,
+        } = job(&song.bytes(), &mut bytes, 1000)
+        else {
+            panic!()
+        };
+        let chart = read_chart(&bytes[..length]).expect("a written chart is read");
+        (chart.draws, longest_search)
+    };
+    let (mut before, mut longest) = end(&song);
+    let mut growths = 0;
+
+    for second in 1..100 {
+        song.objects.push(hold(f64::from(second) * 1000.0, 300.0));
+        let (draws, longest_search) = end(&song);
+        let search = draws - before - 1;
+        growths += u32::from(search > longest);
+        (before, longest) = (draws, longest.max(search));
+        assert_eq!(longest_search, longest);
+    }
+
+    assert!(growths > 1 && longest < 90);
 }
 
 #[test]
@@ -943,17 +999,15 @@ fn an_allowance_only_ends_a_job() {
     for _ in 0..300 {
         let record = jobs::record(&mut rng);
         let mut whole = vec![0xaa; 300_000];
-        let JobEnd::Chart { length } = job(&record, &mut whole, u32::MAX) else {
+        let end = job(&record, &mut whole, u32::MAX);
+        let JobEnd::Chart { length, .. } = end else {
             continue;
         };
         let chart = read_chart(&whole[..length]).expect("a written chart is read");
         assert!(whole[length..].iter().all(|&byte| byte == 0xaa));
 
         let mut exact = vec![0; length];
-        assert_eq!(
-            job(&record, &mut exact, chart.draws),
-            JobEnd::Chart { length }
-        );
+        assert_eq!(job(&record, &mut exact, chart.draws), end);
         assert_eq!(exact, whole[..length]);
 
         if chart.draws > 0 {

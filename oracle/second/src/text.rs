@@ -15,7 +15,7 @@ pub fn charttext(input: &[u8]) -> String {
     let mut chart = vec![0; LONGEST];
 
     let length = match job(input, &mut chart, 1_000_000) {
-        JobEnd::Chart { length } => length,
+        JobEnd::Chart { length, .. } => length,
         JobEnd::Refused {
             number,
             object,

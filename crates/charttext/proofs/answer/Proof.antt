@@ -21,7 +21,7 @@ fits : (c : tie.After-known-told) → c .before .size .given .0 .0 ≤ length (c
 fits c =
     let convert = c .before .before .before .before .before .convert in
     let start = c .before .before .before .before .before .before .before .before .before .before in
-    chart-fits (start .args .bytes .now) (start .args .chart .now) (convert .last .1 .0) 1000000 (c .before .size .given .0 .0) (convert .result) (convert .ensures) (c .before .size .given .1)
+    chart-fits (start .args .bytes .now) (start .args .chart .now) (convert .last .1 .0) 1000000 (c .before .size .given .0 .0) (c .before .size .given .0 .1 .0) (convert .result) (convert .ensures) (c .before .size .given .1)
 
 slice-reshare-prefix-put-chart : tie.Need-slice-reshare-prefix-put-chart
 slice-reshare-prefix-put-chart c = fits c
@@ -59,7 +59,7 @@ returns c =
     let convert = k .before .before .before .before .before .convert in
     let start = k .before .before .before .before .before .before .before .before .before .before in
     let room : put .put-chart .result ≤ length (put .put-chart .last .1 .0) = omega (arith, put .put-chart .ensures .0 .1, put .put-chart .kept .1 .0) in
-    let text = printed (start .args .bytes .now) (start .args .chart .now) (convert .last .1 .0) 1000000 (convert .result) (J.Chart (k .before .size .given .0 .0)) (convert .ensures)
+    let text = printed (start .args .bytes .now) (start .args .chart .now) (convert .last .1 .0) 1000000 (convert .result) (J.Chart (k .before .size .given .0 .0) (k .before .size .given .0 .1 .0)) (convert .ensures)
     (k .before .size .given .1) (put .put-chart .result) (start .args .text .now) (put .put-chart .last .1 .0) (put .put-chart .ensures .0 .0, put .put-chart .ensures .1) in
     ((room, sym (length-take-le _ _ room)), text)
 

@@ -1,7 +1,6 @@
 -- `circle_notes::mirror_notes` meets its contract: the centre's draw, the count, and the notes. Assumes nothing.
 use mathlib.Core.Path.{_≡_, refl, sym, ap, _∙_}
 use Prim.Native.Nat.{ℕ, _≤_}
-use native.Mathlib.Omega.{arith}
 use lib.Ieee.{round, ofBits}
 use Rattle.rules.specs.Rule.{_>>=_}
 use Rattle.rules.specs.Refusal.{ObjectRule}
@@ -86,7 +85,9 @@ begun c =
     ∙ ap (λ (k : MirrorChances). on (rest (a .g) k (c .before .v .given .0 .0)) (c .before .v .given .0 .1 .0)) (sym (m .mirrored-chances .ensures))
 
 mirror-from-requires : tie.Need-mirror-from-requires
-mirror-from-requires c κs = omega (arith, few (c .before .before))
+mirror-from-requires c κs =
+    let m = c .before .before .before .before .before .before .before .before .before .before .before .before .before .before .before in
+    (m .pre .0, m .pre .1, few (c .before .before), m .pre .2)
 
 enum-known-x : tie.Need-enum-known-x
 enum-known-x c = search needs

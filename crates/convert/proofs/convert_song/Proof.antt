@@ -6,7 +6,7 @@ use lib.ListN.{length}
 use Rattle.random.specs.declared.Draws.{Draws}
 use Rattle.random.specs.declared.Random.{Random}
 use Rattle.random.specs.Generator.{seeded}
-use Rattle.random.specs.Play.{refused}
+use Rattle.random.specs.Play.{refused, tallied}
 use Rattle.record.specs.Record.{songOf}
 use Rattle.mania.specs.Convert.{seed}
 use Rattle.mania.specs.Walked.{stop}
@@ -47,45 +47,45 @@ enum-known-notes c = search needs
 
 -- the walk starts at the seed's state
 begins : (c : tie.After-from-seed)
-    → _≡_ {A = Draws} (record { random = c .from-seed .result; left = c .before .before .before .before .before .before .before .args .allowance })
-    (record { random = seeded (seed (songOf (c .before .before .before .before .before .before .before .args .bytes .now) .settings)); left = c .before .before .before .before .before .before .before .args .allowance })
+    → _≡_ {A = Draws} (tallied (c .before .before .before .before .before .before .before .args .allowance) 0 (c .from-seed .result))
+    (tallied (c .before .before .before .before .before .before .before .args .allowance) 0 (seeded (seed (songOf (c .before .before .before .before .before .before .before .args .bytes .now) .settings))))
 begins c =
     let s = c .before .before .before .before .before .before .before in
-    ap (λ (r : Random). record { random = r; left = s .args .allowance }) (c .from-seed .ensures ∙ ap seeded (c .before .seed .ensures ∙ ap seed (s .pre .settings)))
+    ap (λ (r : Random). tallied (s .args .allowance) 0 (r)) (c .from-seed .ensures ∙ ap seeded (c .before .seed .ensures ∙ ap seed (s .pre .settings)))
 
 -- how the walk ended
 ended : (c : tie.After-walk-part)
-    → Ends (songRule (c .before .before .before .before .before .before .before .before .before .args .bytes .now) (length (c .before .before .before .before .before .before .before .before .before .args .chart .now)) (record { random = seeded (seed (songOf (c .before .before .before .before .before .before .before .before .before .args .bytes .now) .settings)); left = c .before .before .before .before .before .before .before .before .before .args .allowance }))
+    → Ends (songRule (c .before .before .before .before .before .before .before .before .before .args .bytes .now) (length (c .before .before .before .before .before .before .before .before .before .args .chart .now)) (tallied (c .before .before .before .before .before .before .before .before .before .args .allowance) 0 (seeded (seed (songOf (c .before .before .before .before .before .before .before .before .before .args .bytes .now) .settings)))))
     (c .before .before .before .before .before .before .before .before .before .args .chart .now) (c .walk-part .last .1 .1 .0) (c .walk-part .result)
 ended c =
     let a = c .before .before .before .before .before .before .before .before .before .args in
     subst (λ (d : Draws). Ends (songRule (a .bytes .now) (length (a .chart .now)) d) (a .chart .now) (c .walk-part .last .1 .1 .0) (c .walk-part .result)) (begins (c .before .before)) (c .walk-part .ensures)
 
 made : (c : tie.After-notes)
-    → Written (songRule (c .before .before .before .before .before .before .before .before .before .before .before .before .before .args .bytes .now) (length (c .before .before .before .before .before .before .before .before .before .before .before .before .before .args .chart .now)) (record { random = seeded (seed (songOf (c .before .before .before .before .before .before .before .before .before .before .before .before .before .args .bytes .now) .settings)); left = c .before .before .before .before .before .before .before .before .before .before .before .before .before .args .allowance }))
+    → Written (songRule (c .before .before .before .before .before .before .before .before .before .before .before .before .before .args .bytes .now) (length (c .before .before .before .before .before .before .before .before .before .before .before .before .before .args .chart .now)) (tallied (c .before .before .before .before .before .before .before .before .before .before .before .before .before .args .allowance) 0 (seeded (seed (songOf (c .before .before .before .before .before .before .before .before .before .before .before .before .before .args .bytes .now) .settings)))))
     (c .before .before .before .before .before .before .before .before .before .before .before .before .before .args .chart .now) (c .before .before .before .before .walk-part .last .1 .1 .0) (c .notes .given .0 .0) (c .notes .given .0 .1 .0)
 made c =
     let s = c .before .before .before .before .before .before .before .before .before .before .before .before .before in
-    subst (λ (r : WalkEnd). Ends (songRule (s .args .bytes .now) (length (s .args .chart .now)) (record { random = seeded (seed (songOf (s .args .bytes .now) .settings)); left = s .args .allowance }))
+    subst (λ (r : WalkEnd). Ends (songRule (s .args .bytes .now) (length (s .args .chart .now)) (tallied (s .args .allowance) 0 (seeded (seed (songOf (s .args .bytes .now) .settings)))))
     (s .args .chart .now) (c .before .before .before .before .walk-part .last .1 .1 .0) r) (c .notes .given .1) (ended (c .before .before .before .before))
 
 stops : (c : tie.After-n)
-    → songRule (c .before .before .before .before .before .before .before .before .before .before .before .before .before .args .bytes .now) (length (c .before .before .before .before .before .before .before .before .before .before .before .before .before .args .chart .now)) (record { random = seeded (seed (songOf (c .before .before .before .before .before .before .before .before .before .before .before .before .before .args .bytes .now) .settings)); left = c .before .before .before .before .before .before .before .before .before .before .before .before .before .args .allowance })
+    → songRule (c .before .before .before .before .before .before .before .before .before .before .before .before .before .args .bytes .now) (length (c .before .before .before .before .before .before .before .before .before .before .before .before .before .args .chart .now)) (tallied (c .before .before .before .before .before .before .before .before .before .before .before .before .before .args .allowance) 0 (seeded (seed (songOf (c .before .before .before .before .before .before .before .before .before .before .before .before .before .args .bytes .now) .settings))))
     ≡ refused (stop (c .n .given .0 .1 .0) (c .n .given .0 .0)) (c .n .given .0 .1 .1 .0)
 stops c =
     let s = c .before .before .before .before .before .before .before .before .before .before .before .before .before in
-    subst (λ (r : WalkEnd). Ends (songRule (s .args .bytes .now) (length (s .args .chart .now)) (record { random = seeded (seed (songOf (s .args .bytes .now) .settings)); left = s .args .allowance }))
+    subst (λ (r : WalkEnd). Ends (songRule (s .args .bytes .now) (length (s .args .chart .now)) (tallied (s .args .allowance) 0 (seeded (seed (songOf (s .args .bytes .now) .settings)))))
     (s .args .chart .now) (c .before .before .before .before .walk-part .last .1 .1 .0) r) (c .n .given .1) (ended (c .before .before .before .before))
 
 sub-finish : tie.Need-sub-finish
 sub-finish c =
-    let k = c .before .before .before in
+    let k = c .before .before .before .before in
     let s = k .before .before .before .before .before .before .before .before .before .before .before .before .before in
     found-left (s .args .bytes .now) (s .args .chart .now) (s .args .allowance) (s .pre .parsed) (length (s .args .chart .now)) (made k .nss) (k .notes .given .0 .1 .0) (made k .says)
 
 finish-requires : tie.Need-finish-requires
 finish-requires c κs =
-    let k = c .before .before .before in
+    let k = c .before .before .before .before in
     let high = k .before .before .before .before .before .before .before .before .before .song-of .ensures .song .high in
     (omega (arith, high), omega (arith, made k .room))
 
@@ -94,7 +94,7 @@ enum-known-n c = search needs
 
 sub-refused : tie.Need-sub-refused
 sub-refused c =
-    let k = c .before .before .before in
+    let k = c .before .before .before .before in
     let s = k .before .before .before .before .before .before .before .before .before .before .before .before .before in
     refused-left (s .args .bytes .now) (s .args .chart .now) (s .args .allowance) (s .pre .parsed) (length (s .args .chart .now)) _ (k .n .given .0 .1 .1 .0) (stops k)
 
@@ -107,7 +107,7 @@ same-length-2 c = search needs
 returns-2 : tie.Need-returns-2
 returns-2 c =
     let f = c .before .before .finish in
-    let k = c .before .before .before .before .before .before in
+    let k = c .before .before .before .before .before .before .before in
     let s = k .before .before .before .before .before .before .before .before .before .before .before .before .before in
     made-job (s .args .bytes .now) (s .args .chart .now) (s .args .allowance) (s .pre .parsed) (omega (arith, k .before .before .before .before .before .before .before .before .before .before .if1 .left)) (k .before .before .before .before .walk-part .last .1 .1 .0) (k .notes .given .0 .0) (k .notes .given .0 .1 .0)
     (made k) (k .before .before .before .before .before .before .before .before .before .song-of .result .columns) (f .result) (f .last .0) (k .before .before .before .before .before .before .before .before .before .song-of .ensures .columns) (f .ensures .0) (f .ensures .1)
@@ -117,10 +117,10 @@ same-length-3 c = search needs
 
 returns-3 : tie.Need-returns-3
 returns-3 c =
-    let k = c .before .before .before .before .before .before in
+    let k = c .before .before .before .before .before .before .before in
     let s = k .before .before .before .before .before .before .before .before .before .before .before .before .before in
     c .before .before .refused2 .ensures
-    ∙ only-length (k .n .given .0 .0) (k .n .given .0 .1 .0) (s .args .allowance - k .n .given .0 .1 .1 .0 .left) (k .before .before .before .before .walk-part .last .1 .1 .0) (s .args .chart .now) (omega arith)
+    ∙ only-length (k .n .given .0 .0) (k .n .given .0 .1 .0) (s .args .allowance - k .n .given .0 .1 .1 .0 .tally .left) (k .before .before .before .before .walk-part .last .1 .1 .0) (s .args .chart .now) (omega arith)
     ∙ stopped-job (s .args .bytes .now) (s .args .chart .now) (s .args .allowance) (s .pre .parsed) (omega (arith, k .before .before .before .before .before .before .before .before .before .before .if1 .left)) (k .n .given .0 .0) (k .n .given .0 .1 .0) (k .n .given .0 .1 .1 .0) (stops k)
 
 pub convert-song-spec : {M : Type 1} → statement M

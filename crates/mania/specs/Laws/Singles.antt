@@ -1,6 +1,6 @@
 -- The single-object entry, from what its object's rule came to from the state that was lent. Assumes nothing.
 use mathlib.Core.Path.{_≡_, refl, sym, ap, _∙_}
-use Prim.Native.Nat.{ℕ, _-_, _*_, _^_, _≤_, _<_}
+use Prim.Native.Nat.{ℕ, _-_, max, _*_, _^_, _≤_, _<_}
 use native.Mathlib.Omega.{arith}
 use mathlib.Core.Bool.{Bool, true, false, not, _&&_}
 use mathlib.Core.List.{List}
@@ -8,9 +8,10 @@ use lib.Dec.{eqb, leb, ltb}
 use lib.ListN.{length}
 use borrow.Author.Tests.{eq-eqb, ne-eqb, eqb-true, ltb-true, leb-true}
 use Rattle.rules.specs.Rule.{ended, run, if_then_else_}
+use Rattle.rules.specs.Ledger.{longest}
 use Rattle.rules.specs.Refusal.{number, spentNumber, ObjectRule}
 use Rattle.random.specs.Generator.{values, steps}
-use Rattle.random.specs.Play.{Answer, found, refused, on, play}
+use Rattle.random.specs.Play.{Answer, found, refused, tallied, on, play}
 use Rattle.random.specs.declared.Random.{Random}
 use Rattle.random.specs.declared.Draws.{Draws}
 use Rattle.random.specs.Laws.Play.{placed, play-run}
@@ -56,17 +57,18 @@ module _ {A : Type 0} (m : ObjectRule A) (d : Draws) where
   after a (found b e) = (b, e)
   after a (refused x e) = (a, e)
 
-  stepped : (a : A) (e : Draws) → on m d ≡ found a e → e .random ≡ steps (d .left - e .left) (d .random)
+  stepped : (a : A) (e : Draws) → on m d ≡ found a e → e .random ≡ steps (d .tally .left - e .tally .left) (d .random)
   unfolding placed
   stepped a e h =
       let u = found-run (λ p. spentNumber) number m d a e h .0 in
-      let same : found a e ≡ placed {P = Unit {0}} (λ p. spentNumber) number (d .left) (d .random) (ended a (d .left - e .left)) =
-      sym h ∙ play-run (λ p. spentNumber) number m (d .left) (d .random) ∙ ap (placed (λ p. spentNumber) number (d .left) (d .random)) u in
+      let most = max (d .tally .longest) (longest m (values (d .tally .left) (d .random))) in
+      let same : found a e ≡ placed {P = Unit {0}} (λ p. spentNumber) number (d .tally .left) most (d .random) (ended a (d .tally .left - e .tally .left)) =
+      sym h ∙ play-run (λ p. spentNumber) number m (d .tally .left) (d .tally .longest) (d .random) ∙ ap (placed (λ p. spentNumber) number (d .tally .left) most (d .random)) u in
       ap (λ (x : Answer ℕ A). after a x .1 .random) same
 
 module _ (f : Facts) (v : PrevValues) (columns : ℕ) (o : Object) (r : Random) (a : ℕ) (buffer : List ℕ) where
   abbrev lent : Draws
-  lent = record { random = r; left = a }
+  lent = tallied a 0 r
 
   -- a check fails
   pub single-checked : (entryRefusal f v columns o ≡ 0 → ⊥) → singleObject f v columns o r a buffer ≡ refusing (entryRefusal f v columns o) r buffer
@@ -99,9 +101,9 @@ module _ (f : Facts) (v : PrevValues) (columns : ℕ) (o : Object) (r : Random) 
     -- it made its notes
     pub single-made : (m : Made) (e : Draws) → on (object f v columns o) lent ≡ found m e → ltb (length buffer) (17 * length (m .notes)) ≡ false
         → singleObject f v columns o r a buffer
-        ≡ record { answer = made (length (m .notes)) (m .mask) (m .last) (m .stair) (e .random) (a - e .left); notes = written (body (m .notes)) buffer }
+        ≡ record { answer = made (length (m .notes)) (m .mask) (m .last) (m .stair) (e .random) (a - e .tally .left); notes = written (body (m .notes)) buffer }
     unfolding withRoom play ending
     single-made m e h l =
         let k : on roomy lent ≡ found m e = found-bind (object f v columns o) _ lent m e h ∙ rw l in
         by-rule ∙ ap (ending r buffer) (found-run (λ p. spentNumber) number roomy lent m e k .0)
-        ∙ ap (λ (s : Random). record { answer = made (length (m .notes)) (m .mask) (m .last) (m .stair) s (a - e .left); notes = written (body (m .notes)) buffer }) (sym (stepped roomy lent m e k))
+        ∙ ap (λ (s : Random). record { answer = made (length (m .notes)) (m .mask) (m .last) (m .stair) s (a - e .tally .left); notes = written (body (m .notes)) buffer }) (sym (stepped roomy lent m e k))

@@ -1,8 +1,8 @@
 -- The walk, one object at a time: for a loop over the objects that keeps the notes made so far; a job, from how its walk ended; and bytes put at a
 -- buffer's start. Assumes nothing.
-use mathlib.Core.Path.{_≡_, refl, sym, ap, _∙_}
+use mathlib.Core.Path.{_≡_, refl, sym, ap, ap₂, _∙_}
 use Prim.Native.Nat.{ℕ, suc, _+_, _-_, _*_}
-use native.Mathlib.Nat.{zero-add}
+use native.Mathlib.Nat.{zero-add, zero-max}
 use mathlib.Core.Bool.{Bool, true, false}
 use mathlib.Core.List.{List, [], _∷_, _++_, append-assoc, append-nil}
 use lib.Dec.{ltb}
@@ -11,10 +11,10 @@ use lib.ListN.{length}
 use Rattle.rules.specs.Rule.{give, label, _>>=_, ended}
 use Rattle.rules.specs.Refusal.{number, spentNumber, ObjectRule}
 use Rattle.random.specs.Generator.{seeded}
-use Rattle.random.specs.Play.{Answer, found, refused, on, play}
+use Rattle.random.specs.Play.{Answer, found, refused, tallied, on, play}
 use Rattle.random.specs.declared.Draws.{Draws}
 use Rattle.random.specs.Laws.Play as Play
-use Rattle.random.specs.Laws.Play.{follow, play-bind}
+use Rattle.random.specs.Laws.Play.{follow, bind-on}
 use Rattle.random.specs.Laws.On.{found-bind, refused-bind}
 use Rattle.random.specs.Laws.Allowance.{found-run, refused-run}
 use Rattle.chart.specs.Bytes.{splice}
@@ -28,7 +28,7 @@ use Rattle.mania.specs.Object.{object}
 use Rattle.mania.specs.Chart.{written}
 use Rattle.mania.specs.Convert.{Walk, at, seed, columnsOf, meets, factsAt, afterObject, objectIn, walk, convert}
 use Rattle.mania.specs.Walked.{Stop, stop, spentAt, refusedAt, onWalk}
-use Rattle.mania.specs.Job.{ending, refusing, under, job}
+use Rattle.mania.specs.Job.{Job, ending, refusing, under, ledgerUnder, job}
 
 -- ---- an object's rule in a walk
 
@@ -106,25 +106,27 @@ module _ (s : Song) (difficulty : Float) (columns room i : ℕ) (w : Walk) where
         let m = objectIn columns room facts w o in
         let next = walk s difficulty columns room (suc i) (afterObject facts o dens made w) os in
         ap (before nss) (Play.found-bind spentAt refusedAt (label (λ p. i) (at i) m) _ d made e (found-at i m d made e (in-room made e h f)))
-        ∙ ap (before nss) (play-bind spentAt refusedAt (λ rest. give (made .notes ∷ rest)) next (e .left) (e .random))
+        ∙ ap (before nss) (bind-on spentAt refusedAt (λ rest. give (made .notes ∷ rest)) next e)
         ∙ rest-before nss (made .notes) (onWalk next e)
 
 -- ---- a job, from what its rules come to from the seed's state
 
 module _ (s : Song) (buffer : List ℕ) (a : ℕ) where
   abbrev from-seed : Draws
-  from-seed = record { random = seeded (seed (s .settings)); left = a }
+  from-seed = tallied a 0 (seeded (seed (s .settings)))
 
   pub job-made : (nss : List (List Note)) (e : Draws) → onWalk (convert s (length buffer)) from-seed ≡ found nss e
-      → job s buffer a ≡ ending (columnsOf s) buffer (ended nss (a - e .left))
-  unfolding job under
-  job-made nss e h = ap (ending (columnsOf s) buffer) (found-run spentAt refusedAt (convert s (length buffer)) from-seed nss e h .0)
+      → job s buffer a ≡ ending (columnsOf s) buffer (e .tally .longest) (ended nss (a - e .tally .left))
+  unfolding job under ledgerUnder
+  job-made nss e h =
+      let r = found-run spentAt refusedAt (convert s (length buffer)) from-seed nss e h in
+      ap₂ {C = Job} (ending (columnsOf s) buffer) (sym (r .2 ∙ zero-max _)) (r .0)
 
   pub job-stopped : (x : Stop) (e : Draws) → onWalk (convert s (length buffer)) from-seed ≡ refused x e
-      → job s buffer a ≡ refusing (x .number) (x .object) (a - e .left) buffer
+      → job s buffer a ≡ refusing (x .number) (x .object) (a - e .tally .left) buffer
   unfolding job under ending
   job-stopped x e h =
-      refused-run spentAt refusedAt (convert s (length buffer)) from-seed (ending (columnsOf s) buffer) (λ y n. refusing (y .number) (y .object) n buffer) (λ i n. refl) (λ r n. refl) x e h .0
+      refused-run spentAt refusedAt (convert s (length buffer)) from-seed (ending (columnsOf s) buffer _) (λ y n. refusing (y .number) (y .object) n buffer) (λ i n. refl) (λ r n. refl) x e h .0
 
 pub splice-start : (s v : List ℕ) → splice s 0 v ≡ written v s
 unfolding splice written

@@ -1,38 +1,26 @@
--- `pattern::find_available_column` meets its contract: each return is a case of the rule. Assumes nothing.
-use mathlib.Core.Path.{sym, _∙_}
-use Rattle.pattern.specs.Laws.Searches.{find-self, find-on, find-none}
+-- `pattern::find_available_column` meets its contract: the column of the search, or its refusal. Assumes nothing.
 use borrow.Author.Needs.{needs}
+use mathlib.Core.Path.{sym, ap, _∙_}
+use Rattle.pattern.specs.Answers.{searchEnd}
+use Rattle.pattern.specs.Laws.Searches.{column-found, column-refused}
 use Rattle.pattern.proofs.find_available_column.Statement.{statement}
 use Rattle.pattern.proofs.find_available_column.Tie as tie
 
-is-free-requires : tie.Need-is-free-requires
-is-free-requires c κs = search needs
+column-search-requires : tie.Need-column-search-requires
+column-search-requires c κs = search needs
+
+enum-known-c : tie.Need-enum-known-c
+enum-known-c c = search needs
+
+enum-known-n : tie.Need-enum-known-n
+enum-known-n c = search needs
 
 returns : tie.Need-returns
-returns c = sym (find-self _ _ _ _ _ _ _ (sym (c .before .is-free .ensures) ∙ c .if1 .taken))
-
-any-free-requires : tie.Need-any-free-requires
-any-free-requires c κs = search needs
-
-search-on-requires : tie.Need-search-on-requires
-search-on-requires c κs = search needs
+returns c = sym (column-found _ _ _ _ _ _ _ _ _ (sym (c .before .before .before .column-search .ensures) ∙ ap searchEnd (c .before .c .given .1)))
 
 returns-2 : tie.Need-returns-2
-returns-2 c =
-    let k = c .before .before .before in
-    c .search-on .ensures
-    ∙ sym
-    (find-on _ _ _ _ _ _ _ (sym (k .before .is-free .ensures) ∙ k .if1 .left)
-    (sym (c .before .before .any-free .ensures) ∙ c .before .if2 .taken))
-
-returns-3 : tie.Need-returns-3
-returns-3 c =
-    let k = c .before .before in
-    sym
-    (find-none _ _ _ _ _ _ _ (sym (k .before .is-free .ensures) ∙ k .if1 .left)
-    (sym (c .before .any-free .ensures) ∙ c .if2 .left))
+returns-2 c = sym (column-refused _ _ _ _ _ _ _ _ _ (sym (c .before .before .before .column-search .ensures) ∙ ap searchEnd (c .before .n .given .1)))
 
 pub find-available-column-spec : {M : Type 1} → statement M
 find-available-column-spec =
-    tie.close
-    (tie.spec is-free-requires returns any-free-requires search-on-requires returns-2 returns-3)
+    tie.close (tie.spec column-search-requires enum-known-c enum-known-n returns returns-2)

@@ -8,21 +8,21 @@ use mathlib.Core.Bool.{Bool, true, false}
 use lib.Dec.{eqb}
 use borrow.Author.Tests.{eqb-true, eqb-false}
 use Rattle.rules.specs.Rule.{give, refuse, if_then_else_}
-use Rattle.rules.specs.Refusal.{noColumn}
+use Rattle.rules.specs.Refusal.{ObjectRule, noColumn, longSearch}
 use Rattle.random.specs.Generator.{between}
-use Rattle.random.specs.Play.{found, refused, play, on, value}
+use Rattle.random.specs.Play.{Answer, found, refused, searched, play, on, onUntil, value}
 use Rattle.random.specs.declared.Draws.{Draws}
-use Rattle.random.specs.Laws.Took.{took-until, none-until}
+use Rattle.random.specs.Laws.Took.{took-until, none-until, limit-until}
 use Rattle.random.specs.Laws.Range.{between-lt}
-use Rattle.random.specs.Laws.Gives.{Gives, if-gives}
-use Rattle.random.specs.Laws.On.{gives}
+use Rattle.random.specs.Laws.Gives.{Gives, if-gives, bind-gives}
+use Rattle.random.specs.Laws.On.{found-bind, refused-bind, gives}
 use Rattle.mania.specs.declared.Next.{Next}
 use Rattle.mania.specs.declared.Next.the-variants.{Draw, Step}
 use Rattle.mania.specs.Pattern.{free, anyFree}
 use lib.Ieee.{Float}
 use Rattle.mania.specs.ManiaObject.{column}
 use Rattle.pattern.specs.Laws.Bounds.{drawn-lt}
-use Rattle.mania.specs.PatternGenerator.{randomStart, getColumn, getRandomColumn, nextColumn, stepTo, drawTo, searchOn, findAvailableColumn}
+use Rattle.mania.specs.PatternGenerator.{randomStart, getColumn, getRandomColumn, Searched, undrawn, searchLimit, nextColumn, stepTo, drawTo, searchOn, columnSearch, findAvailableColumn}
 
 -- ---- whether a column is free
 
@@ -68,7 +68,7 @@ next-lt columns c h = go (eqb (c + 1) columns) refl
     go false e = let z = eqb-false (c + 1) columns e in omega arith
 
 module _ (n columns taken c : ℕ) (d : Draws) where
-  pub step-hit : (e : ℕ) → 0 < n → e ≡ nextColumn columns c → free taken e ≡ true → on (stepTo n columns taken c) d ≡ found e d
+  pub step-hit : (e : ℕ) → 0 < n → e ≡ nextColumn columns c → free taken e ≡ true → on (stepTo n columns taken c) d ≡ found (undrawn e) d
   unfolding stepTo play
   step-hit e h i f = let k : n ≡ suc (n - 1) = omega arith in rw (k, ← i, f)
 
@@ -84,60 +84,99 @@ module _ (n columns taken c : ℕ) (d : Draws) where
 
 -- ---- draws
 
-module _ (lower upper taken : ℕ) (d : Draws) where
-  pub draw-hit : (v : ℕ) (e : Draws) (c : ℕ) → on value d ≡ found v e → c ≡ between lower upper v → free taken c ≡ true
-      → on (drawTo lower upper taken) d ≡ found c e
+module _ (lower upper taken : ℕ) where
+  abbrev passes : ℕ → Bool
+  passes v = free taken (between lower upper v)
+
+  abbrev finds : ℕ → ℕ → ObjectRule Searched
+  finds v n = give (record { column = between lower upper v; draws = n })
+
+  -- the search where it has made so many draws
+  abbrev pub drawOn : ℕ → Draws → Answer ℕ Searched
+  drawOn made d = onUntil longSearch passes finds (searchLimit - made) made d
+
+  pub draw-start : (d : Draws) → drawOn 0 d ≡ on (drawTo lower upper taken) d
   unfolding drawTo play
-  draw-hit v e c h i f = took-until d v e h (λ v. free taken (between lower upper v)) (λ v. give (between lower upper v)) ∙ rw (← i, f)
+  draw-start d = refl
 
-  pub draw-miss : (v : ℕ) (e : Draws) (c : ℕ) → on value d ≡ found v e → c ≡ between lower upper v → free taken c ≡ false
-      → on (drawTo lower upper taken) d ≡ on (drawTo lower upper taken) e
-  unfolding drawTo
-  draw-miss v e c h i f = took-until d v e h (λ v. free taken (between lower upper v)) (λ v. give (between lower upper v)) ∙ rw (← i, f)
+  module _ (made : ℕ) (d : Draws) where
+    module _ (more : made < searchLimit) where
+      some : searchLimit - made ≡ 0 → ⊥
+      some e = omega arith
 
-  pub draw-out : on value d ≡ refused 12 d → on (drawTo lower upper taken) d ≡ refused 12 d
-  unfolding drawTo
-  draw-out h = none-until d d h (λ v. free taken (between lower upper v)) (λ v. give (between lower upper v))
+      fewer : searchLimit - made - 1 ≡ searchLimit - (made + 1)
+      fewer = omega arith
+
+      pub draw-hit : (v : ℕ) (e : Draws) (c : ℕ) → on value d ≡ found v e → c ≡ between lower upper v → free taken c ≡ true
+          → drawOn made d ≡ found (record { column = c; draws = made + 1 }) (searched (made + 1) e)
+      unfolding play
+      draw-hit v e c h i f = took-until d v e h longSearch passes finds (searchLimit - made) made some ∙ rw (← i, f, add-one made)
+
+      pub draw-miss : (v : ℕ) (e : Draws) (c : ℕ) → on value d ≡ found v e → c ≡ between lower upper v → free taken c ≡ false
+          → drawOn made d ≡ drawOn (made + 1) e
+      draw-miss v e c h i f = took-until d v e h longSearch passes finds (searchLimit - made) made some ∙ rw (← i, f, fewer, add-one made)
+
+      pub draw-out : on value d ≡ refused 12 d → drawOn made d ≡ refused 12 (searched made d)
+      draw-out h = none-until longSearch passes finds (searchLimit - made) made d d h some
+
+    pub draw-over : searchLimit ≤ made → drawOn made d ≡ refused 16 (searched made d)
+    draw-over h = let z : searchLimit - made ≡ 0 = omega arith in limit-until longSearch passes finds (searchLimit - made) made d z
 
 -- ---- the whole search
 
 module _ (next : Next) (columns i lower upper taken : ℕ) (d : Draws) where
-  pub find-self : free taken i ≡ true → on (findAvailableColumn next columns i lower upper taken) d ≡ found i d
-  unfolding findAvailableColumn play
+  pub find-self : free taken i ≡ true → on (columnSearch next columns i lower upper taken) d ≡ found (undrawn i) d
+  unfolding columnSearch play
   find-self f = rw f
 
   pub find-on : free taken i ≡ false → anyFree taken lower (upper - lower) ≡ true
-      → on (findAvailableColumn next columns i lower upper taken) d ≡ on (searchOn next columns i lower upper taken) d
-  unfolding findAvailableColumn
+      → on (columnSearch next columns i lower upper taken) d ≡ on (searchOn next columns i lower upper taken) d
+  unfolding columnSearch
   find-on f a = rw (f, a)
 
   pub find-none : free taken i ≡ false → anyFree taken lower (upper - lower) ≡ false
-      → on (findAvailableColumn next columns i lower upper taken) d ≡ refused 9 d
-  unfolding findAvailableColumn play
+      → on (columnSearch next columns i lower upper taken) d ≡ refused 9 d
+  unfolding columnSearch play
   find-none f a = rw (f, a)
+
+  -- its column alone
+  pub column-found : (s : Searched) (e : Draws) → on (columnSearch next columns i lower upper taken) d ≡ found s e
+      → on (findAvailableColumn next columns i lower upper taken) d ≡ found (s .column) e
+  unfolding findAvailableColumn play
+  column-found s e h = found-bind (columnSearch next columns i lower upper taken) _ d s e h
+
+  pub column-refused : (x : ℕ) (e : Draws) → on (columnSearch next columns i lower upper taken) d ≡ refused x e
+      → on (findAvailableColumn next columns i lower upper taken) d ≡ refused x e
+  unfolding findAvailableColumn
+  column-refused x e h = refused-bind (columnSearch next columns i lower upper taken) _ d x e h
 
 -- ---- a column that is found is on the deck
 
-step-gives : (n columns taken c : ℕ) → c < columns → Gives (λ e. e < columns) (stepTo n columns taken c)
+-- a search that finds a column of the deck
+abbrev Finds : ℕ → Searched → Type 0
+Finds columns s = s .column < columns
+
+step-gives : (n columns taken c : ℕ) → c < columns → Gives (Finds columns) (stepTo n columns taken c)
 unfolding stepTo
 step-gives zero columns taken c h = tt
 step-gives (suc n) columns taken c h =
-    if-gives (λ e. e < columns) (free taken (nextColumn columns c)) (give (nextColumn columns c)) (stepTo n columns taken (nextColumn columns c))
+    if-gives (Finds columns) (free taken (nextColumn columns c)) (give (undrawn (nextColumn columns c))) (stepTo n columns taken (nextColumn columns c))
     (next-lt columns c h) (step-gives n columns taken (nextColumn columns c) (next-lt columns c h))
 
 search-gives : (next : Next) (columns c lower upper taken : ℕ) → c < columns → lower < upper → upper ≤ columns
-    → Gives (λ e. e < columns) (searchOn next columns c lower upper taken)
+    → Gives (Finds columns) (searchOn next columns c lower upper taken)
 unfolding searchOn drawTo
-search-gives Draw columns c lower upper taken h l u = λ v k e. lt-of-lt-of-le (between-lt k l) u
+search-gives Draw columns c lower upper taken h l u = λ v n k e. lt-of-lt-of-le (between-lt k l) u
 search-gives Step columns c lower upper taken h l u = step-gives columns columns taken c h
 
 module _ (next : Next) (columns i lower upper taken : ℕ) where
   pub find-gives : i < columns → lower < upper → upper ≤ columns → Gives (λ e. e < columns) (findAvailableColumn next columns i lower upper taken)
-  unfolding findAvailableColumn
+  unfolding findAvailableColumn columnSearch
   find-gives h l u =
-      if-gives (λ e. e < columns) (free taken i) (give i) _ h
-      (if-gives (λ e. e < columns) (anyFree taken lower (upper - lower)) (searchOn next columns i lower upper taken) (refuse noColumn)
-      (search-gives next columns i lower upper taken h l u) tt)
+      bind-gives (Finds columns) (λ e. e < columns) (λ s. give (s .column)) (λ s g. g) (columnSearch next columns i lower upper taken)
+      (if-gives (Finds columns) (free taken i) (give (undrawn i)) _ h
+      (if-gives (Finds columns) (anyFree taken lower (upper - lower)) (searchOn next columns i lower upper taken) (refuse noColumn)
+      (search-gives next columns i lower upper taken h l u) tt))
 
   pub on-deck : i < columns → lower < upper → upper ≤ columns → (d : Draws) (c : ℕ) (e : Draws)
       → on (findAvailableColumn next columns i lower upper taken) d ≡ found c e → c < columns

@@ -56,20 +56,24 @@ module _ {P R A : Type 0} where
   one-more : (k : ℕ) (o o' : Outcome P R A) → plain o' ≡ cut k (plain o) → plain (after o') ≡ cut (suc k) (plain (after o))
   one-more k o o' e = plain-after o' ∙ ap later e ∙ sym (ap (cut (suc k)) (plain-after o) ∙ cut-later k (plain o))
 
-  module _ (p : P) (test : ℕ → Bool) (f : ℕ → List ℕ → Outcome P R A) (h : (v k : ℕ) (vs : List ℕ) → plain (f v (take k vs)) ≡ cut k (plain (f v vs))) where
-    branch-take : (b : Bool) (k v : ℕ) (vs : List ℕ) → plain (drawingUntil p test f (take k vs)) ≡ cut k (plain (drawingUntil p test f vs))
-        → plain (if b then f v (take k vs) else drawingUntil p test f (take k vs)) ≡ cut k (plain (if b then f v vs else drawingUntil p test f vs))
-    branch-take true k v vs e = h v k vs
-    branch-take false k v vs e = e
+  module _ (p : P) (r : R) (test : ℕ → Bool) (f : ℕ → ℕ → List ℕ → Outcome P R A)
+      (h : (v n k : ℕ) (vs : List ℕ) → plain (f v n (take k vs)) ≡ cut k (plain (f v n vs))) where
+    branch-take : (b : Bool) (k v n : ℕ) (vs : List ℕ) (x y : Outcome P R A) → plain x ≡ cut k (plain y)
+        → plain (if b then f v n (take k vs) else x) ≡ cut k (plain (if b then f v n vs else y))
+    branch-take true k v n vs x y e = h v n k vs
+    branch-take false k v n vs x y e = e
 
-    drawingUntil-take : (k : ℕ) (vs : List ℕ) → plain (drawingUntil p test f (take k vs)) ≡ cut k (plain (drawingUntil p test f vs))
+    drawingUntil-take : (more made k : ℕ) (vs : List ℕ) → plain (drawingUntil p r test f more made (take k vs)) ≡ cut k (plain (drawingUntil p r test f more made vs))
     unfolding drawingUntil
-    drawingUntil-take zero [] = ap runs-out (sym (zero-min 0))
-    drawingUntil-take zero (v ∷ vs) = none-more (if test v then f v vs else drawingUntil p test f vs)
-    drawingUntil-take (suc k) [] = ap runs-out (sym (min-zero (suc k)))
-    drawingUntil-take (suc k) (v ∷ vs) =
-        one-more k (if test v then f v vs else drawingUntil p test f vs) (if test v then f v (take k vs) else drawingUntil p test f (take k vs))
-        (branch-take (test v) k v vs (drawingUntil-take k vs))
+    drawingUntil-take zero made k vs = rw leb·zero
+    drawingUntil-take (suc more) made zero [] = ap runs-out (sym (zero-min 0))
+    drawingUntil-take (suc more) made zero (v ∷ vs) = none-more (if test v then f v (suc made) vs else drawingUntil p r test f more (suc made) vs)
+    drawingUntil-take (suc more) made (suc k) [] = ap runs-out (sym (min-zero (suc k)))
+    drawingUntil-take (suc more) made (suc k) (v ∷ vs) =
+        let x = drawingUntil p r test f more (suc made) (take k vs) in
+        let y = drawingUntil p r test f more (suc made) vs in
+        one-more k (if test v then f v (suc made) vs else y) (if test v then f v (suc made) (take k vs) else x)
+        (branch-take (test v) k v (suc made) vs x y (drawingUntil-take more (suc made) k vs))
 
   run-take : (m : Rule P R A) (k : ℕ) (vs : List ℕ) → plain (run m (take k vs)) ≡ cut k (plain (run m vs))
   unfolding run
@@ -79,7 +83,7 @@ module _ {P R A : Type 0} where
   run-take (draw p f) zero (v ∷ vs) = none-more (run (f v) vs)
   run-take (draw p f) (suc k) [] = ap runs-out (sym (min-zero (suc k)))
   run-take (draw p f) (suc k) (v ∷ vs) = one-more k (run (f v) vs) (run (f v) (take k vs)) (run-take (f v) k vs)
-  run-take (drawUntil p test f) k vs = drawingUntil-take p test (λ v. run (f v)) (λ v. run-take (f v)) k vs
+  run-take (drawUntil p limit r test f) k vs = drawingUntil-take p r test (λ v n. run (f v n)) (λ v n. run-take (f v n)) limit 0 k vs
 
 -- ---- where a rule ends spent, it took the whole list; it never takes more
 
@@ -96,15 +100,18 @@ module _ {P R A : Type 0} where
   within-after (refused r n) l h = omega arith
   within-after (spent p n) l h = omega arith
 
-  module _ (p : P) (test : ℕ → Bool) (f : ℕ → List ℕ → Outcome P R A) (h : (v : ℕ) (vs : List ℕ) → Within (f v vs) (length vs)) where
-    branch-within : (b : Bool) (v : ℕ) (vs : List ℕ) → Within (drawingUntil p test f vs) (length vs) → Within (if b then f v vs else drawingUntil p test f vs) (length vs)
-    branch-within true v vs e = h v vs
-    branch-within false v vs e = e
+  module _ (p : P) (r : R) (test : ℕ → Bool) (f : ℕ → ℕ → List ℕ → Outcome P R A) (h : (v n : ℕ) (vs : List ℕ) → Within (f v n vs) (length vs)) where
+    branch-within : (b : Bool) (v n : ℕ) (vs : List ℕ) (x : Outcome P R A) → Within x (length vs) → Within (if b then f v n vs else x) (length vs)
+    branch-within true v n vs x e = h v n vs
+    branch-within false v n vs x e = e
 
-    drawingUntil-within : (vs : List ℕ) → Within (drawingUntil p test f vs) (length vs)
+    drawingUntil-within : (more made : ℕ) (vs : List ℕ) → Within (drawingUntil p r test f more made vs) (length vs)
     unfolding drawingUntil
-    drawingUntil-within [] = refl
-    drawingUntil-within (v ∷ vs) = within-after (if test v then f v vs else drawingUntil p test f vs) (length vs) (branch-within (test v) v vs (drawingUntil-within vs))
+    drawingUntil-within zero made vs = omega arith
+    drawingUntil-within (suc more) made [] = refl
+    drawingUntil-within (suc more) made (v ∷ vs) =
+        let x = drawingUntil p r test f more (suc made) vs in
+        within-after (if test v then f v (suc made) vs else x) (length vs) (branch-within (test v) v (suc made) vs x (drawingUntil-within more (suc made) vs))
 
   pub run-within : (m : Rule P R A) (vs : List ℕ) → Within (run m vs) (length vs)
   unfolding run
@@ -112,7 +119,7 @@ module _ {P R A : Type 0} where
   run-within (refuse r) vs = omega arith
   run-within (draw p f) [] = refl
   run-within (draw p f) (v ∷ vs) = within-after (run (f v) vs) (length vs) (run-within (f v) vs)
-  run-within (drawUntil p test f) vs = drawingUntil-within p test (λ v. run (f v)) (λ v. run-within (f v)) vs
+  run-within (drawUntil p limit r test f) vs = drawingUntil-within p r test (λ v n. run (f v n)) (λ v n. run-within (f v n)) limit 0 vs
 
 -- ---- two lists
 

@@ -21,21 +21,21 @@ returns c =
 put-notes-requires : tie.Need-put-notes-requires
 put-notes-requires c κs = search needs
 
-cast-t17 : tie.Need-cast-t17
-cast-t17 c = search needs
+cast-t18 : tie.Need-cast-t18
+cast-t18 c = search needs
 
-sub-t18 : tie.Need-sub-t18
-sub-t18 c = search needs
+sub-t19 : tie.Need-sub-t19
+sub-t19 c = search needs
 
 same-length : tie.Need-same-length
 same-length c = search needs
 
 returns-2 : tie.Need-returns-2
 returns-2 c =
-    let k = c .before .before .before .before in
+    let k = c .before .before .before .before .before in
     let a = k .before .before .before .before .before .args in
     kept (le-ltb (length (a .notes .now)) (17 * a .p .count) (omega arith)) (k .put-notes .ensures ∙ splice-start (a .notes .now) _) refl
 
 pub keep-spec : {M : Type 1} → statement M
 keep-spec =
-    tie.close (tie.spec mul-if1 returns put-notes-requires cast-t17 sub-t18 same-length returns-2)
+    tie.close (tie.spec mul-if1 returns put-notes-requires cast-t18 sub-t19 same-length returns-2)

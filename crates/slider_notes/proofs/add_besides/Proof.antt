@@ -64,7 +64,7 @@ loop-again c =
       ahead _ _ _ _ (c .before .before .before .before .before .before .before .before .before .loop-test .taken) (l .inv .0),
       record {
         size = c .before .before .before .before .before .before .add-beside .kept .1 .1 .0 ∙ l .inv .1 .size;
-        room = less-row _ _ (c .before .before .before .before .before .before .before .before .beside .result) _ _ (subst (λ (x : Reached). many′ x ≤ l .p .count + c .before .before .before .before .before .before .before .before .beside .result) r (c .before .before .before .before .before .before .add-beside .ensures .few)) (omega (arith, few)) (c .before .before .before .before .before .before .before .before .before .loop-test .taken) (l .inv .1 .room);
+        room = less-row _ _ (c .before .before .before .before .before .before .before .before .beside .result) _ _ (subst (λ (x : Reached). many′ x ≤ l .p .count + c .before .before .before .before .before .before .before .before .beside .result) r (c .before .before .before .before .before .before .add-beside .ensures .few)) (omega (arith, few, c .before .before .before .before .before .before .before .before .before .before .before .before .pre .6)) (c .before .before .before .before .before .before .before .before .before .loop-test .taken) (l .inv .1 .room);
         deck = subst (λ (x : Reached). at x < a .g .columns) r (c .before .before .before .before .before .before .add-beside .ensures .deck);
         goes = sym (besides-more _ _ _ _ _ _ _ _ _ _ (c .before .before .before .before .before .before .before .before .before .loop-test .taken) _ (c .before .before .before .before .before .before .before .before .beside .ensures) _ _ _ _ (got (c .before))) ∙ l .inv .1 .goes;
       },

@@ -6,10 +6,10 @@ use Rattle.vectors.proofs.print_all_refusals.Statement.{statement}
 use Rattle.vectors.proofs.print_all_refusals.Tie as tie
 
 abbrev Inv-loop : tie.InvT-loop
-Inv-loop due i₀ i = i ≤ 16
+Inv-loop due i₀ i = i ≤ 32
 
 abbrev μ-loop : tie.MeasureT-loop
-μ-loop due i₀ i = 16 - i
+μ-loop due i₀ i = 32 - i
 
 loop-holds : tie.Need-loop-holds Inv-loop μ-loop
 loop-holds c = omega arith

@@ -8,16 +8,16 @@ use Rattle.vectors.proofs.replay.Statement.{statement}
 use Rattle.vectors.proofs.replay.Tie as tie
 
 abbrev Inv-loop : tie.InvT-loop
-Inv-loop jobs chart₀ counts₀ at₀ chart counts at = length chart ≡ length chart₀
+Inv-loop list kind buffer₀ counts₀ at₀ buffer counts at = length buffer ≡ length buffer₀
 
 abbrev μ-loop : tie.MeasureT-loop
-μ-loop jobs chart₀ counts₀ at₀ chart counts at = length jobs - at
+μ-loop list kind buffer₀ counts₀ at₀ buffer counts at = length list - at
 
 loop-holds : tie.Need-loop-holds Inv-loop μ-loop
 loop-holds c = refl
 
-job-at-requires : tie.Need-job-at-requires Inv-loop μ-loop
-job-at-requires c κs = tt
+entry-at-requires : tie.Need-entry-at-requires Inv-loop μ-loop
+entry-at-requires c κs = tt
 
 counted-requires : tie.Need-counted-requires Inv-loop μ-loop
 counted-requires c κs = tt
@@ -29,13 +29,13 @@ returns : tie.Need-returns Inv-loop μ-loop
 returns c = tt
 
 replayed-requires : tie.Need-replayed-requires Inv-loop μ-loop
-replayed-requires c κs = c .before .before .before .job-at .ensures
+replayed-requires c κs = c .before .before .before .entry-at .ensures
 
 loop-less : tie.Need-loop-less Inv-loop μ-loop
 loop-less c = omega (arith, c .before .before .before .before .if1 .left)
 
 loop-again : tie.Need-loop-again Inv-loop μ-loop
-loop-again c = c .before .before .replayed .kept .1 .1 .0 ∙ c .before .before .before .before .before .before .before .before .loop .inv
+loop-again c = c .before .before .replayed .kept .1 .1 .1 .0 ∙ c .before .before .before .before .before .before .before .before .loop .inv
 
 same-length-2 : tie.Need-same-length-2 Inv-loop μ-loop
 same-length-2 c = c .before .loop .inv
@@ -50,7 +50,7 @@ replay-spec =
     Inv-loop
     μ-loop
     loop-holds
-    job-at-requires
+    entry-at-requires
     counted-requires
     same-length
     returns

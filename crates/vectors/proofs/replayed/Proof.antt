@@ -1,4 +1,4 @@
--- `vectors::replayed` is safe: the buffer's length is tested, and the job's parts lie within the list.
+-- `vectors::replayed` is safe: the buffer's length is tested, and the entry's parts lie within the list.
 -- Assumes nothing.
 use mathlib.Core.Path.{sym}
 use native.Mathlib.Omega.{arith}
@@ -22,14 +22,6 @@ part-agrees-start c = search needs
 part-agrees-end : tie.Need-part-agrees-end
 part-agrees-end c = search needs
 
-slice-relend-prefix-agrees : tie.Need-slice-relend-prefix-agrees
-slice-relend-prefix-agrees c = search needs
-
-slice-aggregate-agrees : tie.Need-slice-aggregate-agrees
-slice-aggregate-agrees c =
-    let a = c .before .before .before .before .before .args in
-    sym (length-take-le (a .job .buffer) (a .chart .now) (omega arith))
-
 sub-agrees-2 : tie.Need-sub-agrees-2
 sub-agrees-2 c = search needs
 
@@ -38,6 +30,21 @@ part-agrees-start-2 c = search needs
 
 part-agrees-end-2 : tie.Need-part-agrees-end-2
 part-agrees-end-2 c = search needs
+
+sub-agrees-3 : tie.Need-sub-agrees-3
+sub-agrees-3 c = search needs
+
+part-agrees-start-3 : tie.Need-part-agrees-start-3
+part-agrees-start-3 c = search needs
+
+part-agrees-end-3 : tie.Need-part-agrees-end-3
+part-agrees-end-3 c = search needs
+
+slice-relend-prefix-agrees : tie.Need-slice-relend-prefix-agrees
+slice-relend-prefix-agrees c = search needs
+
+slice-aggregate-agrees : tie.Need-slice-aggregate-agrees
+slice-aggregate-agrees c = sym (length-take-le _ _ (omega arith))
 
 agrees-requires : tie.Need-agrees-requires
 agrees-requires c κs = search needs
@@ -60,11 +67,14 @@ replayed-spec =
     sub-agrees
     part-agrees-start
     part-agrees-end
-    slice-relend-prefix-agrees
-    slice-aggregate-agrees
     sub-agrees-2
     part-agrees-start-2
     part-agrees-end-2
+    sub-agrees-3
+    part-agrees-start-3
+    part-agrees-end-3
+    slice-relend-prefix-agrees
+    slice-aggregate-agrees
     agrees-requires
     counted-requires-2
     same-length

@@ -1,14 +1,14 @@
 //! Writes the jobs that the program `vectors` replays, with the unchanged Rust's answers. Arguments: the file, the seed (1).
 //!
 //! First jobs that meet each branch that a job can reach, each answer and each column count, the smallest found; then small random
-//! jobs. A file is its jobs one after the other, numbers with the highest byte first: record length 32, record, buffer length 32,
-//! allowance 32, number 8 (0: a chart). A chart adds its length 32 and its bytes; a refusal its object 32 and its draws 32.
+//! jobs. A file is its jobs one after the other, as `compare::entry` makes them: the record goes in; the numbers are the buffer's length,
+//! the allowance, number (0: a chart), object, draws and longest search; what is due is the chart.
 //! Buffers are lent as `lent_bytes` makes them. Standard output is what `vectors` has to print; standard error names the branches that
 //! no job of the list meets.
 
 use std::process::ExitCode;
 
-use compare::{Job, lent_bytes};
+use compare::{Job, entry, lent_bytes};
 use entry::{JobEnd, Kind};
 use jobs::{Need, Object, Rng, Song};
 use second::hits;
@@ -18,6 +18,8 @@ const MOST_BYTES: usize = 300_000;
 /// The program's chart buffer.
 const MOST_BUFFER: usize = 65_536;
 const TRIES: usize = 60_000;
+/// A refusal's number is below this.
+const NUMBERS: usize = 32;
 
 /// A job with its answer and what it met: branches, then refusals by number, then charts by columns.
 struct Answered {
@@ -36,8 +38,8 @@ impl Answered {
         let mut buffer = job.buffer.clone();
         assert_eq!(end, reference::job(&job.record, &mut buffer, job.allowance), "the two implementations differ");
         let chart = match end {
-            JobEnd::Chart { length } => {
-                met.push(hits::NAMES.len() + 16 + usize::from(buffer[0] & 15));
+            JobEnd::Chart { length, .. } => {
+                met.push(hits::NAMES.len() + NUMBERS + usize::from(buffer[0] & 15));
                 buffer[..length].to_vec()
             }
             JobEnd::Refused { number, .. } => {
@@ -50,27 +52,16 @@ impl Answered {
     }
 
     fn bytes(&self) -> Vec<u8> {
-        let mut bytes = Vec::new();
-        let mut number = |value: usize| bytes.extend((value as u32).to_be_bytes());
-        number(self.job.record.len());
-        bytes.extend(&self.job.record);
-        let mut number = |value: usize| bytes.extend((value as u32).to_be_bytes());
-        number(self.job.buffer.len());
-        number(self.job.allowance as usize);
-        match self.end {
-            JobEnd::Chart { length } => {
-                bytes.push(0);
-                bytes.extend((length as u32).to_be_bytes());
-                bytes.extend(&self.chart);
+        let [number, object, draws, longest_search] = match self.end {
+            JobEnd::Chart { longest_search, .. } => {
+                let draws = second::read_chart(&self.chart).expect("a written chart is read").draws;
+                [0, 0, draws, longest_search]
             }
-            JobEnd::Refused { number, object, draws } => {
-                bytes.push(number);
-                bytes.extend(object.to_be_bytes());
-                bytes.extend(draws.to_be_bytes());
-            }
-        }
+            JobEnd::Refused { number, object, draws } => [number.into(), object, draws, 0],
+        };
+        let numbers = [self.job.buffer.len() as u32, self.job.allowance, number, object, draws, longest_search];
 
-        bytes
+        entry(&self.job.record, &numbers, &self.chart)
     }
 }
 
@@ -130,7 +121,7 @@ fn random(rng: &mut Rng, plenty: &mut [u8]) -> Option<Job> {
         record[0] = 0x10 + if rng.percent(40) { 8 } else { rng.between(1, 9) as u8 };
     }
     let need = match second::job(&record, plenty, 1_000_000) {
-        JobEnd::Chart { length } => {
+        JobEnd::Chart { length, .. } => {
             let draws = second::read_chart(&plenty[..length]).expect("a written chart is read").draws;
             Some(Need { draws, length })
         }
@@ -152,7 +143,7 @@ fn main() -> ExitCode {
     let mut plenty = vec![0; compare::LARGEST];
     hits::start();
 
-    let rows = hits::NAMES.len() + 32;
+    let rows = hits::NAMES.len() + NUMBERS + 16;
     let mut list: Vec<Answered> = rulers().into_iter().map(Answered::new).collect();
     differ_where_near(&list);
     list.extend(long_sliders().into_iter().map(Answered::new));
@@ -201,7 +192,7 @@ fn main() -> ExitCode {
 
     let all: Vec<usize> = (0..rows).map(|row| list.iter().filter(|answered| answered.met.contains(&row)).count()).collect();
     let (branches, answers) = all.split_at(hits::NAMES.len());
-    let (refusals, columns) = answers.split_at(16);
+    let (refusals, columns) = answers.split_at(NUMBERS);
     println!("{} jobs, 0 differ", list.len());
     println!("charts: {}", columns.iter().sum::<usize>());
     for (number, count) in refusals.iter().enumerate().filter(|(_, count)| **count > 0) {

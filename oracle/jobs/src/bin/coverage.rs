@@ -29,7 +29,7 @@ fn main() -> ExitCode {
     for _ in 0..count {
         let record = jobs::record(&mut rng);
         let need = match second::job(&record, &mut plenty, 1_000_000) {
-            JobEnd::Chart { length } => {
+            JobEnd::Chart { length, .. } => {
                 accepted += 1;
                 let chart = second::read_chart(&plenty[..length]).expect("a written chart is read");
                 Some(Need {

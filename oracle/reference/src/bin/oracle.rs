@@ -15,7 +15,7 @@ fn text(record: &[u8], allowance: u32, buffer: usize) -> String {
         JobEnd::Refused { number, object, draws } => {
             format!("refused {number} object {object} draws {draws}\n")
         }
-        JobEnd::Chart { length } => {
+        JobEnd::Chart { length, .. } => {
             reference::read_chart(&chart[..length]).expect("a written chart reads back").text()
         }
     }

@@ -1,17 +1,17 @@
--- `vectors::fill` is safe and ends. The invariant has the bound of the index, and the length; the measure is what is left of the buffer.
+-- `vectors::lent::fill` is safe and ends. The invariant has the bound of the index, and the length; the measure is what is left of the buffer.
 -- Assumes nothing.
 use mathlib.Core.Path.{_≡_, refl}
 use Prim.Native.Nat.{_-_, _≤_}
 use native.Mathlib.Omega.{arith}
 use lib.ListN.{length, length-set}
-use Rattle.vectors.proofs.fill.Statement.{statement}
-use Rattle.vectors.proofs.fill.Tie as tie
+use Rattle.vectors.proofs.lent.fill.Statement.{statement}
+use Rattle.vectors.proofs.lent.fill.Tie as tie
 
 abbrev Inv-loop : tie.InvT-loop
-Inv-loop chart₀ i₀ chart i = (i ≤ length chart₀) × (length chart ≡ length chart₀)
+Inv-loop buffer₀ i₀ buffer i = (i ≤ length buffer₀) × (length buffer ≡ length buffer₀)
 
 abbrev μ-loop : tie.MeasureT-loop
-μ-loop chart₀ i₀ chart i = length chart₀ - i
+μ-loop buffer₀ i₀ buffer i = length buffer₀ - i
 
 loop-holds : tie.Need-loop-holds Inv-loop μ-loop
 loop-holds c = (omega arith, refl)
@@ -19,8 +19,8 @@ loop-holds c = (omega arith, refl)
 lent-requires : tie.Need-lent-requires Inv-loop μ-loop
 lent-requires c κs = tt
 
-slice-write-chart : tie.Need-slice-write-chart Inv-loop μ-loop
-slice-write-chart c = omega arith
+slice-write-buffer : tie.Need-slice-write-buffer Inv-loop μ-loop
+slice-write-buffer c = omega arith
 
 add-i : tie.Need-add-i Inv-loop μ-loop
 add-i c = omega arith
@@ -45,7 +45,7 @@ fill-spec =
     μ-loop
     loop-holds
     lent-requires
-    slice-write-chart
+    slice-write-buffer
     add-i
     loop-less
     loop-again
