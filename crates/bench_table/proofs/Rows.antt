@@ -3,7 +3,7 @@
 use mathlib.Core.Path.{_≡_, refl, ap, _∙_}
 use Prim.Native.Nat.{ℕ, zero, suc, _^_}
 use mathlib.Core.Bool.{true, false}
-use mathlib.Core.List.{List, [], _∷_, _++_}
+use mathlib.Core.List.{List, [], _∷_, _++_, map}
 use lib.IntN.{pos}
 use lib.Ieee.{Float, binary64, round}
 use lib.ListN.{replicate}
@@ -36,7 +36,9 @@ use Rattle.model.specs.Song.{Song}
 use Rattle.mania.specs.Convert.{at, seed, targetColumns, convert}
 use Rattle.mania.specs.Single.{Single, withRoom, entryRefusal, singleObject}
 use Rattle.mania.specs.Single as Single
-use Rattle.mania.specs.Chart.{arranged, inWalkOrder, encode}
+use Rattle.chart.specs.Chart.{encode}
+use Rattle.chart.specs.Order.{arranged}
+use Rattle.mania.specs.Chart.{patternOf, inWalkOrder}
 use Rattle.mania.proofs.Computing.{computing}
 
 abbrev settings : Float → Float → Float → Float → Settings
@@ -173,7 +175,7 @@ hold-song : run (convert holding 65536) (273327012 ∷ []) ≡ ended ((held ∷ 
 unfolding computing
 hold-song = refl
 
-hold-chart : encode 9 1 (arranged [] (inWalkOrder ((held ∷ []) ∷ [])))
+hold-chart : encode 9 1 (arranged [] (map patternOf (inWalkOrder ((held ∷ []) ∷ []))))
     ≡ 0x19 ∷ 0 ∷ 0 ∷ 1 ∷ 0 ∷ 0 ∷ 0 ∷ 1
     ∷ 0x18 ∷ 0x40 ∷ 0x8f ∷ 0x40 ∷ 0 ∷ 0 ∷ 0 ∷ 0 ∷ 0 ∷ 0x40 ∷ 0x72 ∷ 0xc0 ∷ 0 ∷ 0 ∷ 0 ∷ 0 ∷ 0 ∷ []
 unfolding computing

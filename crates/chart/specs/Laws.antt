@@ -3,5 +3,6 @@ pub mod Times
 pub mod Bytes
 pub mod Notes
 pub mod Reader
+pub mod Order
 pub mod Arranged
 pub mod Merge

@@ -10,7 +10,7 @@ use Rattle.chart.specs.declared.Note.{Note}
 use Rattle.chart.specs.Tests.{every}
 use Rattle.chart.specs.Bytes.{be, num}
 use Rattle.chart.specs.Time.{time, isTime}
-use Rattle.chart.specs.Order.{above, insert, arranged}
+use Rattle.chart.specs.Order.{rank, insert, arranged}
 use Rattle.chart.specs.Chart.{refused, accepted, encode, header, body, noteBytes, noteOf, reading, readingOf, decode, okChart, okHead, headTests, okRows, okRow, okNote, noteTests, lasts, notesOf, columnsOf, countOf, drawsOf, scoreOf}
 
 -- 1000.0, 2^-1074, and what is no time: -0.0, infinity, a NaN, -1.0
@@ -58,5 +58,5 @@ circle : ℕ → ℕ → Note
 circle column start = record { column = column; hold = false; start = start; duration = 0 }
 
 in-order : arranged [] (circle 3 5 ∷ circle 1 2 ∷ circle 0 5 ∷ circle 2 2 ∷ []) ≡ circle 1 2 ∷ circle 2 2 ∷ circle 3 5 ∷ circle 0 5 ∷ []
-unfolding arranged insert above circle
+unfolding arranged insert rank circle
 in-order = refl

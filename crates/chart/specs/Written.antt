@@ -2,7 +2,6 @@
 -- Assumes nothing.
 use mathlib.Core.Path.{_≡_, refl, sym, _∙_}
 use mathlib.Core.Bool.{true, false}
-use mathlib.Core.Logic.{⊎-elim}
 use mathlib.Core.List.{List, [], _∷_}
 use mathlib.Core.Option.{some}
 use Prim.Native.Nat.{ℕ, _+_, _^_, _≤_, _<_, zero-le}
@@ -14,15 +13,16 @@ use lib.Ieee.{Float, binary64, fits, toBits}
 use borrow.Author.Tests.{le-leb, lt-ltb}
 use Rattle.floats.specs.Ticks.{ticks}
 use Rattle.floats.specs.Laws.Values.{Sized}
+use Rattle.rules.specs.Each.{Each}
 use Rattle.chart.specs.declared.Note.{Note}
-use Rattle.chart.specs.Tests.{passes, either-way}
+use Rattle.chart.specs.Tests.{passes}
 use Rattle.chart.specs.Laws.Times.{ticks-leb, ticks-zero, time-below, time-toBits, toBits-time}
 use Rattle.chart.specs.Time.{time, latest}
 use Rattle.chart.specs.Chart.{encode, decode, lasts, noteTests, okNote, okNotes}
 use Rattle.chart.specs.Laws.Reader.{note-decided, note-fits}
-use Rattle.chart.specs.Order.{Rising, insert, above, arranged, sorted}
+use Rattle.chart.specs.Order.{rank, arranged}
 use Rattle.chart.specs.RoundTrip.{decode-encode}
-use Rattle.chart.specs.Laws.Arranged.{length-arranged}
+use Rattle.chart.specs.Laws.Order.{Rising, length-arranged, each-arranged, sorted}
 
 -- ---- the notes that the rules make, by their floats
 
@@ -45,22 +45,9 @@ module _ (columns c : ℕ) (on : c < columns) (x : Float) (fx : T (fits binary64
 
 -- ---- in order
 
--- each note may stand first in a chart of so many columns
-unfoldable pub Each : ℕ → List Note → Type 0
-Each c [] = Unit {0}
-Each c (n ∷ ns) = (okNote c 0 n ≡ true) × Each c ns
-
-each-insert : (c : ℕ) (n : Note) (ms : List Note) → okNote c 0 n ≡ true → Each c ms → Each c (insert n ms)
-unfolding Each insert
-each-insert c n [] h e = (h, tt)
-each-insert c n (m ∷ ms) h e =
-    ⊎-elim (λ (t : above (n .start) (m ∷ ms) ≡ true). rw t (h, e)) (λ (t : above (n .start) (m ∷ ms) ≡ false). rw t (e .0, each-insert c n ms h (e .1)))
-    (either-way (above (n .start) (m ∷ ms)))
-
-each-arranged : (c : ℕ) (ms ns : List Note) → Each c ms → Each c ns → Each c (arranged ms ns)
-unfolding Each arranged
-each-arranged c ms [] em e = em
-each-arranged c ms (n ∷ ns) em e = each-arranged c (insert n ms) ns (each-insert c n ms (e .0) em) (e .1)
+-- a note may stand first in a chart of so many columns
+abbrev pub Alone : ℕ → Note → Type 0
+Alone c n = okNote c 0 n ≡ true
 
 -- a note that may stand first may stand after any note that does not start after it
 note-after : (c l : ℕ) (n : Note) → okNote c 0 n ≡ true → l ≤ n .start → okNote c l n ≡ true
@@ -70,14 +57,13 @@ note-after c l n h k =
     let fits : n .start < _ = note-fits c 0 n h .0 in
     sym (note-decided c l n (p 0) (p 1) (p 2) (ticks-leb l (n .start) (omega arith) fits ∙ le-leb l (n .start) k) (p 4)) ∙ p 5
 
-each-rising : (c l : ℕ) (ns : List Note) → Rising l ns → Each c ns → okNotes c l ns ≡ true
-unfolding Rising Each okNotes
+each-rising : (c l : ℕ) (ns : List Note) → Rising l ns → Each (Alone c) ns → okNotes c l ns ≡ true
+unfolding Rising rank okNotes
 each-rising c l [] r e = refl
 each-rising c l (n ∷ ns) r e = rw (note-after c l n (e .0) (r .0)) (each-rising c (n .start) ns (r .1) (e .1))
 
-pub written-read : (c d : ℕ) (ns : List Note) → 1 ≤ c → c ≤ 9 → d < 2 ^ 32 → length ns < 2 ^ 24 → Each c ns
+pub written-read : (c d : ℕ) (ns : List Note) → 1 ≤ c → c ≤ 9 → d < 2 ^ 32 → length ns < 2 ^ 24 → Each (Alone c) ns
     → decode (encode c d (arranged [] ns)) ≡ some (record { columns = c; draws = d; notes = arranged [] ns })
-unfolding Each
 written-read c d ns low high fd fn e =
     decode-encode c d (arranged [] ns)
     (record {
@@ -85,5 +71,5 @@ written-read c d ns low high fd fn e =
       few-columns = high;
       draws-fit = fd;
       notes-fit = rw (length-arranged [] ns, zero-add (length ns)) fn;
-      notes-ok = each-rising c 0 (arranged [] ns) (sorted ns) (each-arranged c [] ns tt e);
+      notes-ok = each-rising c 0 (arranged [] ns) (sorted ns) (each-arranged (Alone c) [] ns tt e);
     })

@@ -2,7 +2,7 @@
 mod covering;
 pub mod nearest;
 mod starting;
-mod starts;
+pub mod starts;
 
 use crate::covering::list_covering;
 use crate::starting::list_starting;

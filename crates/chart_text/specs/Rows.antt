@@ -3,7 +3,8 @@ use mathlib.Core.Path.{_≡_, refl}
 use mathlib.Core.Bool.{true}
 use mathlib.Core.List.{[], _∷_}
 use Rattle.chart.specs.declared.Note.{Note}
-use Rattle.chart_text.specs.Text.{ascii, digit, digits, places, decimal, hex, named, withHex, headLine, noteLine, noteLines, refusalLine, chartText}
+use Rattle.text.specs.Text.{ascii, digit, digits, places, decimal, hex, named, withHex}
+use Rattle.chart_text.specs.Text.{headLine, noteLine, noteLines, refusalLine, chartText}
 
 -- document 01's row: one hold in column 1 at 1000 for 300, after one draw
 hold : Note
@@ -16,7 +17,3 @@ one-hold = refl
 refusal : refusalLine 12 104 4294967295 ≡ ascii "refused 12 object 104 draws 4294967295\n"
 unfolding refusalLine named decimal places digits digit ascii
 refusal = refl
-
-zero : decimal 0 ≡ ascii "0"
-unfolding decimal places digits digit ascii
-zero = refl

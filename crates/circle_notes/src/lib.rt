@@ -14,6 +14,7 @@ use mania::CircleChances;
 use mania::HitObjectPatternGenerator;
 use mania::MirrorChances;
 use mania::Next;
+use model::sound;
 use pattern::Number;
 use pattern::Pattern;
 use pattern::Placed;
@@ -225,8 +226,8 @@ fn add_special(d: Draws, g: HitObjectPatternGenerator, p: Pattern, words: &mut [
     let columns = g.columns;
     let sound = g.sound;
     let low = pattern::random_start(columns);
-    let clap = pattern::has_flag(sound, pattern::CLAP);
-    let finish = pattern::has_flag(sound, pattern::FINISH);
+    let clap = sound::has_flag(sound, sound::CLAP);
+    let finish = sound::has_flag(sound, sound::FINISH);
     let special = (0 < low) & (clap & finish);
     if special {
         return add_note(d, g, 0, p, words);
@@ -386,8 +387,8 @@ fn mirror_notes(
     let columns = g.columns;
     let m = hit_object_type::mirrored_chances(columns, chances);
     let centre = m.centre;
-    let p2 = pattern::clamp(0.0, 1.0, m.p2);
-    let p3 = pattern::clamp(0.0, 1.0, m.p3);
+    let p2 = floats::clamp(0.0, 1.0, m.p2);
+    let p3 = floats::clamp(0.0, 1.0, m.p3);
     let Drawn::Value(v, next) = random::draw(d) else {
         return Placed::Refused(12, d);
     };

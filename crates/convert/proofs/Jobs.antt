@@ -15,14 +15,15 @@ use Rattle.record.specs.Record.{parse, accepted, songOf}
 use Rattle.record.specs.Record as Record
 use Rattle.chart.specs.declared.Note as Patterns
 use Rattle.chart.specs.Bytes.{splice}
-use Rattle.chart.specs.Chart.{notesOf}
+use Rattle.chart.specs.Chart.{encode, notesOf}
 use Rattle.chart.specs.Chart as Bytes
-use Rattle.chart.specs.Order as Order
+use Rattle.chart.specs.Order.{arranged}
 use Rattle.chart.specs.Laws.Notes.{length-encode}
-use Rattle.chart.specs.Laws.Arranged.{length-arranged, finished}
+use Rattle.chart.specs.Laws.Order.{length-arranged}
+use Rattle.chart.specs.Laws.Arranged.{finished}
 use Rattle.model.specs.Song.{Song}
 use Rattle.mania.specs.declared.Note.{Note}
-use Rattle.mania.specs.Chart.{body, patternOf, arranged, inWalkOrder, encode, written}
+use Rattle.mania.specs.Chart.{body, patternOf, inWalkOrder, written}
 use Rattle.mania.specs.Convert.{seed, columnsOf, convert}
 use Rattle.mania.specs.Job.{Job, ending, refusing, under}
 use Rattle.mania.specs.Job as OfSong
@@ -30,7 +31,7 @@ use Rattle.mania.specs.Walked.{Stop, stop, spentAt, refusedAt, onWalk}
 use Rattle.mania.specs.Laws.Walks.{job-made, job-stopped, splice-start}
 use Rattle.walk.specs.Steps.{Written}
 use Rattle.job.specs.Job.{jobOf, job}
-use Rattle.job.proofs.Read.{in-order, fits-all}
+use Rattle.job.proofs.Read.{fits-all}
 use Rattle.convert.specs.declared.JobEnd.the-variants as J
 use Rattle.convert.specs.Ends.{jobEnd, songRule}
 
@@ -92,27 +93,22 @@ module _ (bytes buffer : List ℕ) (a : ℕ) (parsed : parse bytes ≡ accepted 
     made : OfSong.job S buffer a ≡ ending (columnsOf S) buffer (e .tally .longest) (ended (w .nss) n)
     made = job-made S buffer a (w .nss) e (walked h ∙ w .says)
 
-    bytes-are : encode (columnsOf S) n (arranged [] ns) ≡ Bytes.encode (columnsOf S) n (Order.arranged [] ps)
-    unfolding encode
-    bytes-are = ap (Bytes.encode (columnsOf S) n) (in-order bytes buffer S parsed a n (w .nss) ends)
-
     counted : length ps ≡ notes
     counted = length-map ns patternOf ∙ sym (w .number)
 
-    long : length (encode (columnsOf S) n (arranged [] ns)) ≡ 8 + 17 * notes
+    long : length (encode (columnsOf S) n (arranged [] ps)) ≡ 8 + 17 * notes
     long =
-        ap length bytes-are ∙ length-encode (columnsOf S) n (Order.arranged [] ps)
+        length-encode (columnsOf S) n (arranged [] ps)
         ∙ ap (λ (k : ℕ). 8 + 17 * k) (length-arranged [] ps ∙ zero-add (length ps) ∙ counted)
 
     pub made-job : (columns size : ℕ) (last : List ℕ) → columns ≡ columnsOf S → size ≡ 8 + 17 * notes
-        → last ≡ splice exit 0 (Bytes.encode columns n (Order.arranged [] (notesOf notes (drop 8 exit)))) → jobEnd last (J.Chart size (e .tally .longest)) ≡ job bytes buffer a
+        → last ≡ splice exit 0 (encode columns n (arranged [] (notesOf notes (drop 8 exit)))) → jobEnd last (J.Chart size (e .tally .longest)) ≡ job bytes buffer a
     unfolding ending body Bytes.body
     made-job columns size last c z f =
         let room : 8 + 17 * length ps ≤ length buffer = subst (λ (k : ℕ). 8 + 17 * k ≤ length buffer) (sym counted) (w .room) in
-        let whole : splice exit 0 (Bytes.encode columns n (Order.arranged [] (notesOf notes (drop 8 exit)))) ≡ written (encode (columnsOf S) n (arranged [] ns)) buffer =
-        ap₂ (λ (k q : ℕ). splice exit 0 (Bytes.encode k n (Order.arranged [] (notesOf q (drop 8 exit))))) c (sym counted)
+        let whole : splice exit 0 (encode columns n (arranged [] (notesOf notes (drop 8 exit)))) ≡ written (encode (columnsOf S) n (arranged [] ps)) buffer =
+        ap₂ (λ (k q : ℕ). splice exit 0 (encode k n (arranged [] (notesOf q (drop 8 exit))))) c (sym counted)
         ∙ finished buffer exit (columnsOf S) n ps (w .written) room (fits-all bytes buffer S parsed a n (w .nss) ends)
-        ∙ splice-start buffer (Bytes.encode (columnsOf S) n (Order.arranged [] ps))
-        ∙ ap (λ (v : List ℕ). written v buffer) (sym bytes-are) in
+        ∙ splice-start buffer (encode (columnsOf S) n (arranged [] ps)) in
         ap₂ {C = Job} (λ (k : ℕ) (v : List ℕ). record { answer = OfSong.accepted k (e .tally .longest); chart = v }) (z ∙ sym long) (f ∙ whole)
         ∙ sym (job-is ∙ made)

@@ -10,6 +10,7 @@ use Rattle.model.specs.declared.Kind.the-variants.{Circle, Slider, Spinner, Hol
 use Rattle.model.specs.declared.Object.{Object}
 use Rattle.model.specs.Totals.{breakTime, longer, slidersAndSpinners}
 use Rattle.record.specs.declared.Summary.{Summary}
+use Rattle.record.specs.Layout as At
 use Rattle.record.specs.Record.{songOf}
 use Rattle.record.specs.Section.{breaks}
 use Rattle.record.specs.Object.{zeroStart, objects}
@@ -53,7 +54,7 @@ module _ (bytes : List ℕ) (m : Summary) (k : Known bytes m) where
       let d = columns-deck (s .keys) (s .settings) (slidersAndSpinners (s .objects)) (length (s .objects)) (fit .keys) in
       (f ∙ columns-of s, subst (λ (n : ℕ). 1 ≤ n) (sym f) (d .0), subst (λ (n : ℕ). n ≤ 9) (sym f) (d .1))
 
-  pub difficulty-is : (x b : Float) → b ≡ breakTime (double 0 1) (breaks bytes 256 (m .counts .breaks)) → x ≡ difficultyOf (m .settings) b (m .first) (m .last) (m .counts .objects)
+  pub difficulty-is : (x b : Float) → b ≡ breakTime (double 0 1) (breaks bytes At.breaks (m .counts .breaks)) → x ≡ difficultyOf (m .settings) b (m .first) (m .last) (m .counts .objects)
       → x ≡ conversionDifficulty (songOf bytes .settings) (songOf bytes .breaks) (songOf bytes .objects)
   unfolding zeroStart round
   difficulty-is x b e f =

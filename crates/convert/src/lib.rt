@@ -30,7 +30,7 @@ fn song_of(bytes: &[u8], m: Summary) -> Song
     let places = m.places;
     let objects = counts.objects as u32;
     let long = m.long as u32;
-    let breaks = record::section::total_break_time(bytes, 256, counts.breaks);
+    let breaks = record::section::total_break_time(bytes, record::layout::BREAKS, counts.breaks);
     let columns = settings::columns_of(m.keys, settings, long, objects);
     let difficulty = settings::conversion_difficulty(settings, breaks, m.first, m.last, objects);
     Song {

@@ -1,10 +1,10 @@
 -- The note of a word of a spinner's or a hold's buffer. Assumes nothing.
-use Prim.Native.Nat.{ℕ, _%_, _^_}
+use Prim.Native.Nat.{ℕ}
 use lib.Ieee.{Float}
 use Rattle.model.specs.declared.Object.{Object}
 use Rattle.mania.specs.declared.Note.{Note}
 use Rattle.mania.specs.EndTimeObject.{lasting, endNote}
+use Rattle.pattern.specs.Answers.{columnOf}
 
--- a word's column is its lowest 4 bits
 unfoldable pub endNoteAt : Object → Float → ℕ → Note
-endNoteAt o duration w = endNote o (lasting o duration) (w % 2 ^ 4)
+endNoteAt o duration w = endNote o (lasting o duration) (columnOf w)

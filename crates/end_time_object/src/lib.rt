@@ -12,6 +12,7 @@ ghost use Rattle.end_time_object.specs.Answers.{endNoteAt};
 use mania::Note;
 use mania::PrevValues;
 use model::Object;
+use model::sound;
 use pattern::Number;
 use pattern::ObjectEnd;
 use pattern::Pattern;
@@ -64,7 +65,7 @@ fn note_column(d: Draws, v: PrevValues, columns: u8, o: Object, lasts: f64) -> N
     ensures { λ r. ⌜ number r ≡ on (Rule.noteColumn v columns o lasts) d ⌝ }
 {
     let sound = o.sound;
-    let finish = pattern::has_flag(sound, pattern::FINISH);
+    let finish = sound::has_flag(sound, sound::FINISH);
     let special = (columns == 8) & finish & (lasts < 1000.0);
     if special {
         return Number::Given(0, d);
@@ -99,7 +100,7 @@ pub fn end_note_at(o: Object, duration: f64, w: u64) -> Note
     ensures { λ r. ⌜ r ≡ endNoteAt o duration w ⌝ }
 {
     let lasts = lasting(o, duration);
-    end_note(o, lasts, (w % 16) as u8)
+    end_note(o, lasts, pattern::column_of(w))
 }
 
 // One note; the previous pattern and the stair stay.

@@ -9,6 +9,7 @@ ghost use Rattle.floats.specs.Whole.{inUnits, rounded, signed, whole, na
 ghost use Rattle.floats.specs.Narrow.{narrowed};
 ghost use lib.Ieee.Scale.{finite};
 ghost use Rattle.floats.specs.Range.{inRange, within, float};
+ghost use Rattle.floats.specs.Least.{least, greatest, clamped};
 
 // How a number is taken to a whole one: toward zero, down, up, or to the nearest, a tie to the even one.
 pub enum Way {
@@ -251,4 +252,46 @@ pub fn in_range_f32(x: f32, lo: f32, hi: f32) -> bool
         return false;
     }
     within_f32(f32::to_bits(x), lo, hi)
+}
+
+// ---- floats that are no NaN
+
+// `x.min(y)`
+pub fn min(x: f64, y: f64) -> f64
+    ensures { λ r. ⌜ r ≡ least x y ⌝ }
+{
+    if y < x { y } else { x }
+}
+
+// `x.max(y)`
+pub fn max(x: f64, y: f64) -> f64
+    ensures { λ r. ⌜ r ≡ greatest x y ⌝ }
+{
+    if x < y { y } else { x }
+}
+
+// `x.clamp(low, high)`
+pub fn clamp(low: f64, high: f64, x: f64) -> f64
+    ensures { λ r. ⌜ r ≡ clamped low high x ⌝ }
+{
+    if x < low {
+        low
+    } else if high < x {
+        high
+    } else {
+        x
+    }
+}
+
+// The same of 32 bits.
+pub fn clamp_f32(low: f32, high: f32, x: f32) -> f32
+    ensures { λ r. ⌜ r ≡ clamped low high x ⌝ }
+{
+    if x < low {
+        low
+    } else if high < x {
+        high
+    } else {
+        x
+    }
 }

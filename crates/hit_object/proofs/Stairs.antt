@@ -1,6 +1,6 @@
 -- The stair after the notes of the buffer, one word at a time. Assumes nothing.
 use mathlib.Core.Path.{_≡_, refl}
-use Prim.Native.Nat.{ℕ, zero, suc, _+_, _%_, _^_, _≤_, _<_}
+use Prim.Native.Nat.{ℕ, zero, suc, _+_, _≤_, _<_}
 use native.Mathlib.Nat.{le-of-suc-le-suc, not-suc-le-zero}
 use native.Mathlib.Numerals.{add-one}
 use mathlib.Core.List.{List, [], _∷_, map}
@@ -9,6 +9,7 @@ use Rattle.mania.specs.declared.HitObjectPatternGenerator.{HitObjectPatternGene
 use Rattle.mania.specs.declared.Stair.{Stair}
 use Rattle.mania.specs.Made.{circle}
 use Rattle.mania.specs.HitObject.{turned, stairAfter}
+use Rattle.pattern.specs.Answers.{columnOf}
 use Rattle.circle_notes.specs.Answers.{circleAt}
 
 -- of the first words, those from word i on: word i and those after it
@@ -28,7 +29,7 @@ none-left (w ∷ ws) (suc n) zero h = absurd (not-suc-le-zero h)
 none-left (w ∷ ws) (suc n) (suc i) h = none-left ws n i (le-of-suc-le-suc h)
 
 module _ (g : HitObjectPatternGenerator) (words : List ℕ) (count i : ℕ) (s : Stair) where
-  pub after-more : i < count → count ≤ length words → (d : ℕ) (t : Stair) → t ≡ turned g (getD words i d % 2 ^ 4) s
+  pub after-more : i < count → count ≤ length words → (d : ℕ) (t : Stair) → t ≡ turned g (columnOf (getD words i d)) s
       → stairAfter g s (map (circleAt (g .start)) (drop i (take count words))) ≡ stairAfter g t (map (circleAt (g .start)) (drop (i + 1) (take count words)))
   unfolding stairAfter circleAt circle
   after-more h l d t e = rw (rest-is words count i d h l, e, add-one i)

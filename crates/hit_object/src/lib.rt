@@ -174,7 +174,7 @@ fn generate_core(d: Draws, g: HitObjectPatternGenerator, words: &mut [u64]) -> P
 // ---- the whole rule
 
 // The stair after a note at column c.
-fn turned(g: HitObjectPatternGenerator, c: u64, s: Stair) -> Stair
+fn turned(g: HitObjectPatternGenerator, c: u8, s: Stair) -> Stair
     requires { ⌜ 0 < g .columns ⌝ }
     ensures { λ r. ⌜ r ≡ Rule.turned g c s ⌝ }
 {
@@ -183,11 +183,11 @@ fn turned(g: HitObjectPatternGenerator, c: u64, s: Stair) -> Stair
     let low = pattern::random_start(columns);
     let down = pattern::has_type(flags, pattern::REVERSE_STAIR);
     let up = pattern::has_type(flags, pattern::STAIR);
-    let at_start = down & (c == low as u64);
+    let at_start = down & (c == low);
     if at_start {
         return Stair::Up;
     }
-    let at_end = up & (c == columns as u64 - 1);
+    let at_end = up & (c == columns - 1);
     if at_end {
         return Stair::Reverse;
     }
@@ -202,7 +202,7 @@ fn stair_after(g: HitObjectPatternGenerator, count: usize, words: &[u64]) -> Sta
     let mut s = g.stair;
     let mut i = 0;
     while i < count {
-        s = turned(g, words[i] % 16, s);
+        s = turned(g, pattern::column_of(words[i]), s);
         i += 1;
     }
     s

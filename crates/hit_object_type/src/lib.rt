@@ -15,6 +15,7 @@ use mania::MirrorChances;
 use mania::PrevValues;
 use mania::Stair;
 use model::Object;
+use model::sound;
 use pattern::Number;
 use random::Draws;
 
@@ -87,8 +88,8 @@ pub fn type_by_sound(columns: u8, sound: u8, flags: u16) -> u16
     ensures { λ r. ⌜ r ≡ Rule.typeBySound columns sound flags ⌝ }
 {
     let single = pattern::has_type(flags, pattern::KEEP_SINGLE);
-    let finish = pattern::has_flag(sound, pattern::FINISH);
-    let clap = pattern::has_flag(sound, pattern::CLAP);
+    let finish = sound::has_flag(sound, sound::FINISH);
+    let clap = sound::has_flag(sound, sound::CLAP);
     if single {
         return flags;
     }
@@ -119,10 +120,10 @@ fn capped(columns: u8, c: CircleChances) -> CircleChances
     ensures { λ r. ⌜ r ≡ Rule.capped columns c ⌝ }
 {
     let i = columns as usize;
-    let p2 = pattern::min(c.p2, CAPS_2[i]);
-    let p3 = pattern::min(c.p3, CAPS_3[i]);
-    let p4 = pattern::min(c.p4, CAPS_4[i]);
-    let p5 = pattern::min(c.p5, CAPS_5[i]);
+    let p2 = floats::min(c.p2, CAPS_2[i]);
+    let p3 = floats::min(c.p3, CAPS_3[i]);
+    let p4 = floats::min(c.p4, CAPS_4[i]);
+    let p5 = floats::min(c.p5, CAPS_5[i]);
     CircleChances { p2, p3, p4, p5 }
 }
 
@@ -130,7 +131,7 @@ fn capped(columns: u8, c: CircleChances) -> CircleChances
 fn halved(p: f64, low: f64) -> f64
     ensures { λ r. ⌜ r ≡ Rule.halved p low ⌝ }
 {
-    1.0 - pattern::max((1.0 - p) * 2.0, low)
+    1.0 - floats::max((1.0 - p) * 2.0, low)
 }
 
 // The chances of a mirrored pattern, by column count.
@@ -140,7 +141,7 @@ pub fn mirrored_chances(columns: u8, m: MirrorChances) -> MirrorChances
     let centre = m.centre;
     let p2 = m.p2;
     let p3 = m.p3;
-    let small = pattern::min(centre, 0.03);
+    let small = floats::min(centre, 0.03);
     if columns == 2 {
         return MirrorChances {
             centre: 0.0,
@@ -288,7 +289,7 @@ pub fn get_random_note_count(
     let columns = g.columns;
     let sound = g.sound;
     let c = capped(columns, chances);
-    let clap = pattern::has_flag(sound, pattern::CLAP);
+    let clap = sound::has_flag(sound, sound::CLAP);
     let p2 = certain(clap, c.p2);
     pattern::get_random_note_count(d, p2, c.p3, c.p4, c.p5, 0.0)
 }

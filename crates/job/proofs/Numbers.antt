@@ -9,6 +9,7 @@ use lib.Ieee.{Float}
 use Rattle.bits.specs.Field.{bits, short}
 use Rattle.record.specs.declared.section.Section.{Section}
 use Rattle.record.specs.declared.section.Section.the-variants.{Breaks, TimingPoints, DifficultyPoints, EffectPoints}
+use Rattle.record.specs.Layout as At
 use Rattle.record.specs.Refusal.{_gives_, _then_, f32Refusal, f64Refusal, entriesRefusal}
 use Rattle.record.specs.Header.{countsOf, settingRefusal, multiplierRefusal, headerRefusal}
 use Rattle.record.specs.Section.{timeRefusal, beatRefusal, velocityRefusal, risingRefusal, entryRefusal, sectionRefusal}
@@ -116,7 +117,7 @@ module _ (s : List ℕ) where
   lists =
       let n = countsOf s in
       let at = placesOf n in
-      row _ _ (section Breaks 256 (n .breaks)) (row _ _ (section TimingPoints (at .timing) (n .timing))
+      row _ _ (section Breaks At.breaks (n .breaks)) (row _ _ (section TimingPoints (at .timing) (n .timing))
       (row _ _ (section DifficultyPoints (at .difficulty) (n .difficulty)) (section EffectPoints (at .effect) (n .effect))))
 
   record-number : recordRefusal s ≤ 7

@@ -2,7 +2,7 @@
 use mathlib.Core.Path.{_≡_, refl}
 use Prim.Native.Nat.{ℕ, _^_, _≤_}
 use native.Mathlib.Omega.{arith}
-use mathlib.Core.List.{List, [], _∷_}
+use mathlib.Core.List.{List}
 use lib.Dec.{lit≤}
 use lib.IntN.{pos}
 use lib.ListN.{length}
@@ -22,6 +22,7 @@ use Rattle.record.specs.Record.{parse, accepted}
 use Rattle.record.specs.Fit.{FromTo}
 use Rattle.record.specs.Fit as Fit
 use Rattle.record.specs.Laws.Ranges as Read
+use Rattle.rules.specs.Laws.Each.{each-map}
 use Rattle.mania.specs.Steps.{double}
 use Rattle.mania.specs.Range.{FewRepeats, InRange}
 use Rattle.mania.specs.Demand.{Each}
@@ -70,10 +71,6 @@ multiplier-most = (refl, refl)
 
 -- ---- the song
 
-each-fit : {A : Type 0} (P Q : A → Type 0) → ((a : A) → P a → Q a) → (xs : List A) → Each P xs → Each Q xs
-each-fit P Q f [] h = tt
-each-fit P Q f (x ∷ xs) h = (f x (h .0), each-fit P Q f xs (h .1))
-
 fit-distance : (d : Distance) → Fit.FitDistance d → FitDistance d
 fit-distance Missing h = tt
 fit-distance (Given d) h = from-to 0 131072 d (lit≤ tt) (lit≤ tt) h
@@ -91,10 +88,10 @@ pub fit-song : (s : List ℕ) (g : Song) → parse s ≡ accepted g → FitSong 
 fit-song s g e =
     let h = Read.fit-song s g e in
     record {
-      objects = each-fit Fit.FitObject FitObject fit-object (g .objects) (h .objects);
-      beats = each-fit Fit.FitTiming (λ (t : TimingPoint). Span 60000 (t .beat)) (λ t f. from-to 6 60000 (t .beat) (lit≤ tt) (lit≤ tt) (f .beat)) (g .timingPoints) (h .timing);
+      objects = each-map Fit.FitObject FitObject fit-object (g .objects) (h .objects);
+      beats = each-map Fit.FitTiming (λ (t : TimingPoint). Span 60000 (t .beat)) (λ t f. from-to 6 60000 (t .beat) (lit≤ tt) (lit≤ tt) (f .beat)) (g .timingPoints) (h .timing);
       velocities =
-          each-fit Fit.FitDifficulty (λ (t : DifficultyPoint). AtLeast 10 (t .velocity))
+          each-map Fit.FitDifficulty (λ (t : DifficultyPoint). AtLeast 10 (t .velocity))
           (λ t f. at-least 10 (double 1 10) (ofInt binary64 (pos 10)) (t .velocity) velocity-least (whole-sized 10 (lit≤ tt)) (f .velocity .range))
           (g .difficultyPoints) (h .difficulty);
       multiplier = at-least 3 (double 4 10) (double 36 10) (g .settings .multiplier) multiplier-least multiplier-most (h .settings .multiplier .range);
@@ -111,4 +108,4 @@ few-repeats (Hold d) h = tt
 
 pub objects-in-range : (s : List ℕ) (g : Song) → parse s ≡ accepted g → Each InRange (g .objects)
 objects-in-range s g e =
-    each-fit FitObject InRange (λ o h. record { start = h .0 .range; repeats = few-repeats (o .kind) (h .1) }) (g .objects) (fit-song s g e .objects)
+    each-map FitObject InRange (λ o h. record { start = h .0 .range; repeats = few-repeats (o .kind) (h .1) }) (g .objects) (fit-song s g e .objects)

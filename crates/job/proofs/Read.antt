@@ -3,36 +3,31 @@ use mathlib.Core.Path.{_≡_, refl, sym, ap, _∙_, subst}
 use Prim.Native.Nat.{ℕ, suc, _+_, _-_, _*_, _^_, _≤_, _<_}
 use native.Mathlib.Nat.{le-trans, le-refl, lt-of-le-of-lt, lt-of-lt-of-le, zero-add}
 use native.Mathlib.Omega.{arith}
-use mathlib.Core.Bool.{true}
-use mathlib.Core.List.{List, [], _∷_, _++_, map}
+use mathlib.Core.List.{List, [], _∷_, map}
 use mathlib.Core.Option.{some}
-use lib.Dec.{T, lit≤}
+use lib.Dec.{lit≤}
 use borrow.Author.Tests.{ltb-true}
 use lib.ListN.{length, take, drop, length-append, length-drop}
 use lib.Seq.{take-at}
-use lib.Ieee.{Float, binary64, fits}
+use lib.Ieee.{Float}
 use Rattle.rules.specs.Rule.{Outcome, ended, run, taken, Done}
 use Rattle.rules.specs.Rule as Rule
+use Rattle.rules.specs.Laws.Each.{each-append}
 use Rattle.random.specs.Generator.{values, seeded}
 use Rattle.random.specs.Laws.Allowance.{done-le}
-use Rattle.chart.specs.declared.Note as Patterns
 use Rattle.chart.specs.Tests.{passes}
-use Rattle.chart.specs.Time.{isTime}
-use Rattle.chart.specs.Laws.Times.{time-toBits}
-use Rattle.chart.specs.Chart.{decode, okNote, noteTests}
-use Rattle.chart.specs.Chart as Bytes
+use Rattle.chart.specs.Chart.{encode, decode, okNote, noteTests}
 use Rattle.chart.specs.Laws.Notes.{length-encode, Fits}
 use Rattle.chart.specs.Laws.Reader.{note-fits}
-use Rattle.chart.specs.Laws.Arranged.{length-arranged}
-use Rattle.chart.specs.Order as Order
-use Rattle.chart.specs.Written as Written
-use Rattle.chart.specs.Written.{written-read}
+use Rattle.chart.specs.Order.{arranged}
+use Rattle.chart.specs.Laws.Order.{length-arranged}
+use Rattle.chart.specs.Written.{Alone, written-read}
 use Rattle.mania.specs.declared.Note.{Note}
 use Rattle.model.specs.declared.Object.{Object}
 use Rattle.model.specs.declared.Kind.{Kind}
 use Rattle.model.specs.declared.Kind.the-variants.{Circle, Slider, Spinner, Hold}
 use Rattle.mania.specs.LimitedQueue.{Density}
-use Rattle.mania.specs.Chart.{patternOf, arranged, inWalkOrder, encode, written}
+use Rattle.mania.specs.Chart.{patternOf, inWalkOrder, written}
 use Rattle.model.specs.Song.{Song}
 use Rattle.mania.specs.Convert.{AtObject, seed, columnsOf, factsAt, convert}
 use Rattle.mania.specs.Job.{ending, refusing, under}
@@ -41,7 +36,6 @@ use Rattle.mania.specs.Demand.{Each}
 use Rattle.mania.specs.Demand as Draws
 use Rattle.mania.proofs.Demand.{Fine, Sound, ended-notes, some-columns, few-columns}
 use Rattle.mania.proofs.Counts.{ended-few, ended-room}
-use Rattle.mania.proofs.Order.{Times, arranged-patterns}
 use Rattle.record.specs.Record.{Parsed, refused, accepted, parse}
 use Rattle.job.specs.Job.{jobOf, job, columnsIn, columns, drawsOf, draws, notesIn, notesOf, notes}
 use Rattle.job.specs.Read.{chartNotes, Reads}
@@ -78,30 +72,17 @@ objects-fine columns s difficulty fit (o ∷ os) h =
 
 -- ---- from the notes of each object to those of the chart
 
-each-append : {A : Type 0} (P : A → Type 0) (xs ys : List A) → Each P xs → Each P ys → Each P (xs ++ ys)
-each-append P [] ys h k = k
-each-append P (x ∷ xs) ys h k = (h .0, each-append P xs ys (h .1) k)
-
 walk-each : (P : Note → Type 0) (nss : List (List Note)) → Each (Sound P) nss → Each P (inWalkOrder nss)
 unfolding inWalkOrder
 walk-each P [] h = tt
 walk-each P (ns ∷ nss) h = each-append P ns (inWalkOrder nss) (h .0 .1) (walk-each P nss (h .1))
 
-okay-time : (columns : ℕ) (n : Note) → Okay columns n → T (fits binary64 (n .start)) × (isTime (n .start) ≡ true)
-unfolding okNote noteTests patternOf
-okay-time columns n h = (h .exact, sym (ap isTime (time-toBits (n .start) (h .exact))) ∙ passes (noteTests columns 0 (patternOf n)) (h .taken) 1)
-
-okay-times : (columns : ℕ) (ns : List Note) → Each (Okay columns) ns → Times ns
-okay-times columns [] h = tt
-okay-times columns (n ∷ ns) h = (okay-time columns n (h .0), okay-times columns ns (h .1))
-
-okay-written : (columns : ℕ) (ns : List Note) → Each (Okay columns) ns → Written.Each columns (map patternOf ns)
-unfolding Written.Each
+okay-written : (columns : ℕ) (ns : List Note) → Each (Okay columns) ns → Each (Alone columns) (map patternOf ns)
 okay-written columns [] h = tt
 okay-written columns (n ∷ ns) h = (h .0 .taken, okay-written columns ns (h .1))
 
 okay-fits : (columns : ℕ) → columns ≤ 9 → (ns : List Note) → Each (Okay columns) ns → Fits (map patternOf ns)
-unfolding Fits okNote noteTests
+unfolding okNote noteTests
 okay-fits columns c [] h = tt
 okay-fits columns c (n ∷ ns) h =
     let f = note-fits columns 0 (patternOf n) (h .0 .taken) in (
@@ -118,15 +99,10 @@ length-patterns [] = refl
 length-patterns (n ∷ ns) = ap suc (length-patterns ns)
 
 module _ (s buffer : List ℕ) (r : Song) (e : parse s ≡ accepted r) (a n : ℕ) (nss : List (List Note)) (u : under r buffer a ≡ ended nss n) where
-  pub okay-all : Each (Okay (columnsOf r)) (inWalkOrder nss)
+  okay-all : Each (Okay (columnsOf r)) (inWalkOrder nss)
   okay-all =
       let fit = fit-song s r e in
       walk-each _ nss (ended-notes (Okay (columnsOf r)) r buffer (objects-fine (columnsOf r) r _ fit (r .objects) (fit .objects)) a n nss u)
-
-  -- the order by floats is the order by patterns
-  pub in-order : map patternOf (arranged [] (inWalkOrder nss)) ≡ Order.arranged [] (map patternOf (inWalkOrder nss))
-  unfolding Order.Rising
-  in-order = arranged-patterns [] (inWalkOrder nss) tt (okay-times (columnsOf r) (inWalkOrder nss) okay-all) tt
 
   -- the notes fit the fields of a chart
   pub fits-all : Fits (map patternOf (inWalkOrder nss))
@@ -150,8 +126,8 @@ module _ (s buffer : List ℕ) (r : Song) (e : parse s ≡ accepted r) (a n : �
       below k n h l = omega arith
 
   module _ (small : a < 2 ^ 32) where
-    pub read-back : decode (Bytes.encode (columnsOf r) n (Order.arranged [] (map patternOf (inWalkOrder nss))))
-        ≡ some (record { columns = columnsOf r; draws = n; notes = Order.arranged [] (map patternOf (inWalkOrder nss)) })
+    pub read-back : decode (encode (columnsOf r) n (arranged [] (map patternOf (inWalkOrder nss))))
+        ≡ some (record { columns = columnsOf r; draws = n; notes = arranged [] (map patternOf (inWalkOrder nss)) })
     read-back =
         written-read (columnsOf r) n (map patternOf (inWalkOrder nss)) (some-columns r) (few-columns r (accepted-keys s r e))
         (lt-of-le-of-lt drawn small) (rw (length-patterns (inWalkOrder nss)) few-all) (okay-written (columnsOf r) (inWalkOrder nss) okay-all)
@@ -159,7 +135,8 @@ module _ (s buffer : List ℕ) (r : Song) (e : parse s ≡ accepted r) (a n : �
 -- ---- the job
 
 chart-of : (c : ℕ) (buffer : List ℕ) (g : ℕ) (o : Outcome ℕ AtObject (List (List Note))) (n k : ℕ) → ending c buffer g o .answer ≡ OfSong.accepted n k
-    → (ending c buffer g o .chart ≡ written (encode c (taken o) (arranged [] (inWalkOrder (notesIn o)))) buffer) × (n ≡ length (encode c (taken o) (arranged [] (inWalkOrder (notesIn o)))))
+    → (ending c buffer g o .chart ≡ written (encode c (taken o) (arranged [] (map patternOf (inWalkOrder (notesIn o))))) buffer)
+    × (n ≡ length (encode c (taken o) (arranged [] (map patternOf (inWalkOrder (notesIn o))))))
 unfolding ending refusing taken notesIn
 chart-of c buffer g (ended nss m) n k e = (refl, sym (ap told e))
   where
@@ -182,28 +159,27 @@ length-written bytes buffer h = length-append bytes (drop (length bytes) buffer)
 
 -- of what was parsed
 record ReadsOf (c d : ℕ) (nss : List (List Note)) (buffer : List ℕ) (a n : ℕ) : Type 0 where
-  long : n ≡ length (Bytes.encode c d (Order.arranged [] (map patternOf (inWalkOrder nss))))
-  room : length (Bytes.encode c d (Order.arranged [] (map patternOf (inWalkOrder nss)))) ≤ length buffer
-  read : a < 2 ^ 32 → decode (Bytes.encode c d (Order.arranged [] (map patternOf (inWalkOrder nss))))
-      ≡ some (record { columns = c; draws = d; notes = Order.arranged [] (map patternOf (inWalkOrder nss)) })
+  long : n ≡ length (encode c d (arranged [] (map patternOf (inWalkOrder nss))))
+  room : length (encode c d (arranged [] (map patternOf (inWalkOrder nss)))) ≤ length buffer
+  read : a < 2 ^ 32 → decode (encode c d (arranged [] (map patternOf (inWalkOrder nss))))
+      ≡ some (record { columns = c; draws = d; notes = arranged [] (map patternOf (inWalkOrder nss)) })
 
 reads-of : (s buffer : List ℕ) (p : Parsed) → parse s ≡ p → (a n g : ℕ) → jobOf p buffer a .answer ≡ OfSong.accepted n g
-    → (jobOf p buffer a .chart ≡ written (Bytes.encode (columnsIn p) (drawsOf p buffer a) (Order.arranged [] (map patternOf (inWalkOrder (notesOf p buffer a))))) buffer)
+    → (jobOf p buffer a .chart ≡ written (encode (columnsIn p) (drawsOf p buffer a) (arranged [] (map patternOf (inWalkOrder (notesOf p buffer a))))) buffer)
     × ReadsOf (columnsIn p) (drawsOf p buffer a) (notesOf p buffer a) buffer a n
-unfolding jobOf columnsIn drawsOf notesOf encode refusing OfSong.job Draws.draws
+unfolding jobOf columnsIn drawsOf notesOf refusing OfSong.job Draws.draws
 reads-of s buffer (refused m) e a n g h = let z : _≡_ {A = ℕ} 1 0 = ap refuses h in absurd (omega arith)
 reads-of s buffer (accepted r) e a n g h =
     let c = columnsOf r in
     let o = under r buffer a in
     let u : o ≡ ended (notesIn o) (taken o) = accepted-ended c buffer _ o n g h in
-    let k = chart-of c buffer _ o n g h in
-    let order = in-order s buffer r e a (taken o) (notesIn o) u in (
-      k .0 ∙ ap (λ (ns : List Patterns.Note). written (Bytes.encode c (taken o) ns) buffer) order,
+    let k = chart-of c buffer _ o n g h in (
+      k .0,
       record {
-        long = k .1 ∙ ap (λ (ns : List Patterns.Note). length (Bytes.encode c (taken o) ns)) order;
+        long = k .1;
         room =
             let ns = map patternOf (inWalkOrder (notesIn o)) in
-            rw (length-encode c (taken o) (Order.arranged [] ns), length-arranged [] ns, zero-add (length ns), length-patterns (inWalkOrder (notesIn o)))
+            rw (length-encode c (taken o) (arranged [] ns), length-arranged [] ns, zero-add (length ns), length-patterns (inWalkOrder (notesIn o)))
             (ended-room r buffer a (taken o) (notesIn o) u);
         read = λ small. read-back s buffer r e a (taken o) (notesIn o) u small;
       },
@@ -217,11 +193,11 @@ reads s buffer =
       long = λ a n g h. reads-of s buffer (parse s) refl a n g h .1 .long;
       room = λ a n g h.
           let k = reads-of s buffer (parse s) refl a n g h in
-          let b : List ℕ = Bytes.encode (columns s) (draws s buffer a) (chartNotes s buffer a) in
+          let b : List ℕ = encode (columns s) (draws s buffer a) (chartNotes s buffer a) in
           (subst (λ (i : ℕ). i ≤ length buffer) (sym (k .1 .long)) (k .1 .room), ap length (k .0) ∙ length-written b buffer (k .1 .room));
       read = λ a n g small h.
           let k = reads-of s buffer (parse s) refl a n g h in
-          let b : List ℕ = Bytes.encode (columns s) (draws s buffer a) (chartNotes s buffer a) in
+          let b : List ℕ = encode (columns s) (draws s buffer a) (chartNotes s buffer a) in
           let taken-is : take n (job s buffer a .chart) ≡ b =
           ap (λ (i : ℕ). take i (job s buffer a .chart)) (k .1 .long) ∙ ap (take (length b)) (k .0) ∙ take-written b buffer in
           ap decode taken-is ∙ k .1 .read small;

@@ -14,6 +14,7 @@ use record::header::header_refusal;
 use record::header::keys_of;
 use record::header::places_of;
 use record::header::settings_of;
+use record::layout;
 use record::objects::Scan;
 use record::refusal::f64_at;
 use record::refusal::first;
@@ -28,7 +29,7 @@ fn lists_refusal(s: &[u8], n: Counts) -> u8
     ensures { λ r. ⌜ r ≡ listsRefusal (now (s .entry)) n ⌝ }
 {
     let at = places_of(n);
-    let breaks = section_refusal(Section::Breaks, s, 256, n.breaks);
+    let breaks = section_refusal(Section::Breaks, s, layout::BREAKS, n.breaks);
     let timing = section_refusal(Section::TimingPoints, s, at.timing, n.timing);
     let difficulty = section_refusal(Section::DifficultyPoints, s, at.difficulty, n.difficulty);
     let effect = section_refusal(Section::EffectPoints, s, at.effect, n.effect);
@@ -55,7 +56,7 @@ fn first_start(s: &[u8], at: usize, count: usize) -> f64
     if count == 0 {
         return 0.0;
     }
-    f64_at(s, at + 70)
+    f64_at(s, at + layout::START)
 }
 
 // Every condition of a record, in record order; what it is, where none applies.

@@ -15,6 +15,7 @@ use lib.Ieee.Back.{round-whole}
 use borrow.Author.Tests.{eq-eqb}
 use Rattle.rules.specs.Rule.{if_then_else_}
 use Rattle.floats.specs.Ticks.{ticks}
+use Rattle.chart.specs.Lanes.{extentOf, Covers, Apart}
 use Rattle.mania.specs.declared.Note.{Note}
 use Rattle.mania.specs.declared.SliderNote.{SliderNote}
 use Rattle.mania.specs.declared.PathObjectPatternGenerator.{PathObjectPatternGenerator}
@@ -22,7 +23,7 @@ use Rattle.mania.specs.Steps.{double#}
 use Rattle.mania.specs.Made.{Made, circle}
 use Rattle.mania.specs.Pattern.{Pattern, empty, put}
 use Rattle.mania.specs.PathObject.{noteOf, others, ending, split}
-use Rattle.mania.specs.Demand.{lastInstant, Covers, Apart, Each, EveryTwo, Lanes}
+use Rattle.mania.specs.Demand.{extent, Each, EveryTwo, Lanes}
 use Rattle.mania.proofs.Makes.{two-map}
 
 -- ---- a whole number's instant
@@ -59,19 +60,19 @@ note-circle : (b : SliderNote) → b .start ≡ b .end → noteOf b ≡ circle (
 unfolding noteOf
 note-circle b e = rw (eq-eqb (b .start) (b .end) e)
 
-covers-at : (c : ℕ) (x : Float) (t : ℕ) → Covers (circle c x) t → t ≡ ticks x
-unfolding Covers circle lastInstant
+covers-at : (c : ℕ) (x : Float) (t : ℕ) → Covers (extent (circle c x)) t → t ≡ ticks x
+unfolding Covers circle extentOf
 covers-at c x t h = omega (arith, h .0, h .1)
 
 pub ApartBars : SliderNote → SliderNote → Type 0
-ApartBars a b = Apart (noteOf a) (noteOf b)
+ApartBars a b = Apart (extent (noteOf a)) (extent (noteOf b))
 
 -- circles at two times
 at-two : (a b : SliderNote) → a .start ≡ a .end → b .start ≡ b .end → a .start < b .start → b .start ≤ 2 ^ 53
-    → (t : ℕ) → Covers (noteOf a) t → Covers (noteOf b) t → ⊥
+    → (t : ℕ) → Covers (extent (noteOf a)) t → Covers (extent (noteOf b)) t → ⊥
 at-two a b ea eb l h t ca cb =
-    let ta : t ≡ a .start * 2 ^ 1074 = covers-at (a .column) (double# (a .start)) t (subst (λ (n : Note). Covers n t) (note-circle a ea) ca) ∙ whole-instant (a .start) (le-trans (before (a .start) (b .start) l) h) in
-    let tb : t ≡ b .start * 2 ^ 1074 = covers-at (b .column) (double# (b .start)) t (subst (λ (n : Note). Covers n t) (note-circle b eb) cb) ∙ whole-instant (b .start) h in
+    let ta : t ≡ a .start * 2 ^ 1074 = covers-at (a .column) (double# (a .start)) t (subst (λ (n : Note). Covers (extent n) t) (note-circle a ea) ca) ∙ whole-instant (a .start) (le-trans (before (a .start) (b .start) l) h) in
+    let tb : t ≡ b .start * 2 ^ 1074 = covers-at (b .column) (double# (b .start)) t (subst (λ (n : Note). Covers (extent n) t) (note-circle b eb) cb) ∙ whole-instant (b .start) h in
     no t (a .start * 2 ^ 1074) (b .start * 2 ^ 1074) ta tb (mul-lt-mul-of-pos-right l (pow-pos 1074))
   where
     before : (x y : ℕ) → x < y → x ≤ y
@@ -81,13 +82,13 @@ at-two a b ea eb l h t ca cb =
     no t x y p q l = omega arith
 
 pub off-apart : (a b : SliderNote) → Off a b → ApartBars a b
-unfolding ApartBars Apart
+unfolding ApartBars Apart extentOf
 off-apart a b h e t ca cb =
     let k = h (sym (note-column a) ∙ e ∙ note-column b) in
     at-two a b (k .0) (k .1) (k .2) (k .3) t ca cb
 
 pub apart-sym : (a b : SliderNote) → ApartBars a b → ApartBars b a
-unfolding ApartBars Apart
+unfolding ApartBars Apart extentOf
 apart-sym a b h e t cb ca = h (sym e) t ca cb
 
 -- ---- the split: the bars that do not end at the slider's end, and then the others
@@ -134,7 +135,7 @@ two-split end (b ∷ bs) h = go (eqb (b .end) end) (two-split end bs (h .1)) (ea
     go true k m = two-insert (others end bs) (kept end bs) b k m
     go false k m = (m, k)
 
-each-notes : (a : SliderNote) (bs : List SliderNote) → Each (ApartBars a) bs → Each (Apart (noteOf a)) (map noteOf bs)
+each-notes : (a : SliderNote) (bs : List SliderNote) → Each (ApartBars a) bs → Each (λ m. Apart (extent (noteOf a)) (extent m)) (map noteOf bs)
 unfolding ApartBars
 each-notes a [] h = tt
 each-notes a (b ∷ bs) h = (h .0, each-notes a bs (h .1))

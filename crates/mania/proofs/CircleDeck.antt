@@ -13,7 +13,7 @@ use Rattle.random.specs.declared.Draws.{Draws}
 use Rattle.random.specs.Laws.On.{gives}
 use Rattle.mania.specs.declared.Note.{Note}
 use Rattle.mania.specs.declared.HitObjectPatternGenerator.{HitObjectPatternGenerator}
-use Rattle.mania.specs.Sound.{finish, clap, hasFlag}
+use Rattle.model.specs.Sound.{finish, clap, hasFlag}
 use Rattle.mania.specs.PatternType.{forceStack, forceNotStack, keepSingle, mirror, reverse, stair, reverseStair, contains}
 use Rattle.mania.specs.Made.{Made, circle}
 use Rattle.mania.specs.Pattern.{Pattern, free, empty, put, add}

@@ -14,8 +14,9 @@ use Rattle.rules.specs.Refusal.{Refusal, offDeck, ObjectRule, longSearch}
 use Rattle.random.specs.Generator.{unit}
 use Rattle.mania.specs.declared.Note.{Note}
 use Rattle.mania.specs.declared.HitObjectPatternGenerator.{HitObjectPatternGenerator}
-use Rattle.mania.specs.Steps.{double, least, clamped}
-use Rattle.mania.specs.Sound.{finish, clap, hasFlag}
+use Rattle.floats.specs.Least.{least, clamped}
+use Rattle.mania.specs.Steps.{double}
+use Rattle.model.specs.Sound.{finish, clap, hasFlag}
 use Rattle.mania.specs.PatternType.{forceStack, forceNotStack, keepSingle, mirror, reverse, cycle, stair, reverseStair, contains}
 use Rattle.mania.specs.Made.{circle}
 use Rattle.mania.specs.Pattern.{Pattern, free, empty, put, add}

@@ -10,17 +10,19 @@ use lib.Bits.{bitOr}
 use borrow.Author.Tests.{eqb-false, ltb-true}
 use Rattle.rules.specs.Rule.{if_then_else_, _>>=_}
 use Rattle.random.specs.Generator.{unit}
+use Rattle.rules.specs.Laws.Each.{each-map}
+use Rattle.chart.specs.Lanes.{extentOf, Apart}
 use Rattle.mania.specs.declared.Note.{Note}
 use Rattle.mania.specs.declared.HitObjectPatternGenerator.{HitObjectPatternGenerator}
-use Rattle.mania.specs.Sound.{finish, clap, hasFlag}
+use Rattle.model.specs.Sound.{finish, clap, hasFlag}
 use Rattle.mania.specs.PatternType.{forceStack, forceNotStack, keepSingle, mirror, reverse, stair, reverseStair, contains}
 use Rattle.mania.specs.Made.{circle}
 use Rattle.mania.specs.Pattern.{Pattern, free, empty, put}
 use Rattle.mania.specs.PatternGenerator.{randomStart}
 use Rattle.mania.specs.HitObject
-use Rattle.mania.specs.Demand.{Apart, Each, EveryTwo, Lanes}
+use Rattle.mania.specs.Demand.{extent, Each, EveryTwo, Lanes}
 use Rattle.mania.proofs.Masks.{bit, or-left, or-own, or-free-left}
-use Rattle.mania.proofs.Makes.{Makes, giving, seq, less, by, valued, added, each-snoc, each-map, two-snoc, two-map}
+use Rattle.mania.proofs.Makes.{Makes, giving, seq, less, by, valued, added, each-snoc, two-snoc, two-map}
 use Rattle.mania.specs.Laws.Tests.{and-l}
 use Rattle.mania.proofs.Columns.{between-ge, next-ge, start-le, start-small, find-draw, find-any, column-makes, within, counted}
 
@@ -319,10 +321,10 @@ module _ (g : HitObjectPatternGenerator) (P : Note → Type 0) (fine : (c : ℕ)
   unfolding HitObject.generate
   circle-differ t = seq (core-two t) (λ p h. giving h)
 
-  apart : (n m : Note) → Differ n m → Apart n m
-  unfolding Apart
+  apart : (n m : Note) → Differ n m → Apart (extent n) (extent m)
+  unfolding Apart extentOf
   apart n m h e = absurd (h e)
 
   pub circle-lanes : 1 ≤ T → Makes (λ made. Lanes (made .notes) × Each P (made .notes)) (HitObject.generate g)
   unfolding HitObject.generate
-  circle-lanes t = seq (core-two t) (λ p h. giving (two-map Differ Apart apart (p .notes) (h .0), h .1))
+  circle-lanes t = seq (core-two t) (λ p h. giving (two-map Differ (λ n m. Apart (extent n) (extent m)) apart (p .notes) (h .0), h .1))

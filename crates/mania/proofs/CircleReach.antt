@@ -19,7 +19,7 @@ use Rattle.mania.specs.declared.Stair.{Stair}
 use Rattle.mania.specs.declared.Stair.the-variants.{Up, Reverse}
 use Rattle.mania.specs.declared.HitObjectPatternGenerator.{HitObjectPatternGenerator}
 use Rattle.mania.specs.Steps.{double}
-use Rattle.mania.specs.Sound.{finish, clap, hasFlag}
+use Rattle.model.specs.Sound.{finish, clap, hasFlag}
 use Rattle.mania.specs.PatternType.{forceStack, forceNotStack, keepSingle, gathered, mirror, reverse, stair, reverseStair, stairBit, _⊔ₜ_, contains}
 use Rattle.mania.specs.Made.{circle}
 use Rattle.mania.specs.Pattern.{Pattern, free, empty, put}

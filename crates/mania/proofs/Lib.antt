@@ -2,7 +2,7 @@
 -- `SliderLanes`). Refusals: `Conditions`, from what each generator is refused by (`CircleEnds`, `SliderEnds`); `Reach`: why 9 and 10 don't come out
 -- of a song, from what each generator leaves (`CircleReach`, `SliderReach`; `Follows`); `Eight`, `Eleven`. `Singles`: the claims of the single-object entry.
 -- `CircleDeck`, `SliderDeck`: what the next object meets. `Counts`: how many notes an object makes. `Limits`: how many draws a search may make, `Own`:
--- that it tells how many it made. `Ones`, `Frees`, `Masks`: the columns of a mask. `Back`: columns and positions. `Order`: the chart's order.
+-- that it tells how many it made. `Ones`, `Frees`, `Masks`: the columns of a mask. `Back`: columns and positions.
 -- `Examples`: computed on the definition.
 pub mod Makes
 pub mod Meets
@@ -19,7 +19,6 @@ pub mod Allowances
 pub mod Demand
 pub mod Pigeons
 pub mod Counts
-pub mod Order
 pub mod CircleDeck
 pub mod SliderDeck
 pub mod Searching

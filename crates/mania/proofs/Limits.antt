@@ -27,7 +27,7 @@ use Rattle.mania.specs.declared.Next.{Next}
 use Rattle.mania.specs.declared.Next.the-variants.{Draw, Step}
 use Rattle.mania.specs.declared.Note.{Note}
 use Rattle.mania.specs.declared.SliderNote.{SliderNote}
-use Rattle.mania.specs.Sound.{clap, finish, hasFlag}
+use Rattle.model.specs.Sound.{clap, finish, hasFlag}
 use Rattle.mania.specs.Steps.{double}
 use Rattle.mania.specs.PatternType.{contains, reverse, forceStack, forceNotStack, stair, reverseStair, keepSingle, mirror}
 use Rattle.mania.specs.Pattern.{Pattern, free, anyFree, empty, add}

@@ -5,6 +5,7 @@ use mathlib.Core.Bool.{Bool, true, false}
 use mathlib.Core.List.{List, [], _∷_, _++_}
 use lib.Dec.{ltb}
 use borrow.Author.Tests.{ltb-true}
+use Rattle.rules.specs.Laws.Each.{each-map}
 use Rattle.rules.specs.Rule.{if_then_else_, Rule, give, refuse, draw, drawUntil, _>>=_, label, ended, run}
 use Rattle.random.specs.Generator.{values}
 use Rattle.random.specs.Play.{tallied, value}
@@ -89,10 +90,6 @@ added columns note c p h = by (ltb c columns) _ _ (λ e. giving (h (ltb-true c c
 pub each-snoc : {A : Type 0} (P : A → Type 0) (xs : List A) (b : A) → Each P xs → P b → Each P (xs ++ b ∷ [])
 each-snoc P [] b h g = (g, tt)
 each-snoc P (a ∷ xs) b h g = (h .0, each-snoc P xs b (h .1) g)
-
-pub each-map : {A : Type 0} (P Q : A → Type 0) → ((a : A) → P a → Q a) → (xs : List A) → Each P xs → Each Q xs
-each-map P Q f [] h = tt
-each-map P Q f (a ∷ xs) h = (f a (h .0), each-map P Q f xs (h .1))
 
 pub two-snoc : {A : Type 0} (R : A → A → Type 0) (xs : List A) (b : A) → EveryTwo R xs → Each (λ a. R a b) xs → EveryTwo R (xs ++ b ∷ [])
 two-snoc R [] b h g = (tt, tt)

@@ -17,8 +17,9 @@ use Rattle.model.specs.declared.Object.{Object}
 use Rattle.mania.specs.declared.PrevValues.{PrevValues}
 use Rattle.mania.specs.declared.SliderNote.{SliderNote}
 use Rattle.mania.specs.declared.PathObjectPatternGenerator.{PathObjectPatternGenerator}
-use Rattle.mania.specs.Steps.{double, least}
-use Rattle.mania.specs.Sound.{finish, hasFlag}
+use Rattle.floats.specs.Least.{least}
+use Rattle.mania.specs.Steps.{double}
+use Rattle.model.specs.Sound.{finish, hasFlag}
 use Rattle.mania.specs.PatternType.{forceNotStack, contains}
 use Rattle.mania.specs.Pattern.{Pattern, anyFree, empty, put}
 use Rattle.mania.specs.PatternGenerator.{randomStart, getColumn, getRandomNoteCount, findAvailableColumn}

@@ -14,6 +14,7 @@ use borrow.Author.Tests.{eqb-true, ltb-true, ltb-false, leb-true, leb-false}
 use Rattle.rules.specs.Rule.{if_then_else_, _>>=_}
 use Rattle.random.specs.Generator.{between}
 use Rattle.random.specs.Laws.Range.{between-lt}
+use Rattle.rules.specs.Laws.Each.{each-map}
 use Rattle.mania.specs.declared.SliderNote.{SliderNote}
 use Rattle.mania.specs.declared.Note.{Note}
 use Rattle.mania.specs.declared.PathObjectPatternGenerator.{PathObjectPatternGenerator}
@@ -24,7 +25,7 @@ use Rattle.mania.specs.PatternGenerator.{randomStart}
 use Rattle.mania.specs.PathObject
 use Rattle.mania.specs.Demand.{Each, EveryTwo, Lanes}
 use Rattle.mania.proofs.Masks.{bit, or-bit, or-left, or-own, or-free-left}
-use Rattle.mania.proofs.Makes.{Makes, giving, refusing, seq, less, by, valued, added, each-snoc, each-map, two-snoc}
+use Rattle.mania.proofs.Makes.{Makes, giving, refusing, seq, less, by, valued, added, each-snoc, two-snoc}
 use Rattle.mania.proofs.Columns.{between-ge, find-draw, column-makes, counted}
 use Rattle.mania.proofs.Bars.{Off, split-lanes, split-each}
 

@@ -12,7 +12,7 @@ use Rattle.model.specs.declared.Object.{Object}
 use Rattle.mania.specs.declared.Note.{Note}
 use Rattle.mania.specs.declared.Next.the-variants.{Draw}
 use Rattle.mania.specs.Steps.{double}
-use Rattle.mania.specs.Sound.{finish, hasFlag}
+use Rattle.model.specs.Sound.{finish, hasFlag}
 use Rattle.mania.specs.Made.{Made, circle}
 use Rattle.mania.specs.Pattern.{empty, add}
 use Rattle.mania.specs.PatternGenerator.{randomStart, getRandomColumn, findAvailableColumn}

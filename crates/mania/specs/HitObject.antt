@@ -24,8 +24,9 @@ use Rattle.mania.specs.declared.Next.the-variants.{Draw, Step}
 use Rattle.mania.specs.declared.HitObjectPatternGenerator.{HitObjectPatternGenerator}
 use Rattle.mania.specs.declared.CircleChances.{CircleChances}
 use Rattle.mania.specs.declared.MirrorChances.{MirrorChances}
-use Rattle.mania.specs.Steps.{single, double, least, greatest, clamped}
-use Rattle.mania.specs.Sound.{finish, clap, hasFlag}
+use Rattle.floats.specs.Least.{least, greatest, clamped}
+use Rattle.mania.specs.Steps.{single, double}
+use Rattle.model.specs.Sound.{finish, clap, hasFlag}
 use Rattle.mania.specs.PatternType.{forceStack, forceNotStack, keepSingle, lowProbability, gathered, mirror, reverse, cycle, stair, reverseStair, stairBit, _⊔ₜ_, contains}
 use Rattle.mania.specs.Made.{Made, circle}
 use Rattle.mania.specs.Pattern.{Pattern, free, empty, add}

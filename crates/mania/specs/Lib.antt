@@ -1,6 +1,5 @@
 -- The rules of the conversion, a module for each file of the Rust, and what a job and the single-object entry give by them.
 pub mod Steps
-pub mod Sound
 pub mod LimitedQueue
 pub mod ManiaObject
 pub mod PatternType

@@ -26,8 +26,9 @@ use Rattle.mania.specs.declared.Note.{Note}
 use Rattle.mania.specs.declared.SliderNote.{SliderNote}
 use Rattle.mania.specs.declared.Next.the-variants.{Draw}
 use Rattle.mania.specs.declared.PathObjectPatternGenerator.{PathObjectPatternGenerator}
-use Rattle.mania.specs.Steps.{single, double, double#, least, clamped}
-use Rattle.mania.specs.Sound.{whistle, finish, clap, hasFlag}
+use Rattle.floats.specs.Least.{least, clamped}
+use Rattle.mania.specs.Steps.{single, double, double#}
+use Rattle.model.specs.Sound.{whistle, finish, clap, hasFlag}
 use Rattle.mania.specs.PatternType.{forceNotStack, lowProbability, _⊔ₜ_, contains}
 use Rattle.mania.specs.Made.{Made, circle}
 use Rattle.mania.specs.Pattern.{Pattern, empty, put, add}

@@ -17,7 +17,8 @@ use Rattle.model.specs.declared.Object.{Object}
 use Rattle.model.specs.Totals.{breakTime, firstStart, lastStart}
 use Rattle.mania.specs.declared.Next.{Next}
 use Rattle.mania.specs.declared.Next.the-variants.{Draw, Step}
-use Rattle.mania.specs.Steps.{single, double, double#, least, clamped}
+use Rattle.floats.specs.Least.{least, clamped}
+use Rattle.mania.specs.Steps.{single, double, double#}
 use Rattle.mania.specs.ManiaObject.{column}
 use Rattle.mania.specs.Pattern.{free, anyFree}
 

@@ -57,7 +57,7 @@ fn put_in_columns(n: Note, words: &[u64], count: usize, s: &mut [u8], at: usize)
     let mut i = 0;
     while i < count {
         let row = chart::Note {
-            column: (words[i] % 16) as u8,
+            column: pattern::column_of(words[i]),
             hold: p.hold,
             start: pinned(p.start, i, words.len()),
             duration: pinned(p.duration, i, words.len()),

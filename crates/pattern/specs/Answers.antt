@@ -1,7 +1,7 @@
 -- What each case of an answer of the code means. Notes stand in a lent buffer, one word a note; `read` gives the note of a word.
 -- Assumes nothing.
 use mathlib.Core.Path.{_≡_}
-use Prim.Native.Nat.{ℕ, _≤_}
+use Prim.Native.Nat.{ℕ, _%_, _^_, _≤_}
 use mathlib.Core.List.{List, map}
 use lib.ListN.{take}
 use Rattle.random.specs.Play.{Answer, found, refused}
@@ -27,6 +27,10 @@ number (N.Refused x d) = refused x d
 abbrev pub searchEnd : Search → Answer ℕ Searched
 searchEnd (S.Found c n d) = found (record { column = c; draws = n }) d
 searchEnd (S.Refused x d) = refused x d
+
+-- a word's column: its lowest 4 bits, whichever generator wrote it
+abbrev pub columnOf : ℕ → ℕ
+columnOf w = w % 2 ^ 4
 
 -- the pattern whose notes are the first words of a buffer
 unfoldable pub pattern : {A : Type 0} → (ℕ → A) → List ℕ → Lent.Pattern → Pattern A

@@ -4,13 +4,11 @@ ghost use Prim.Native.Nat.{_-_, _^_, _≤_, _<_};
 ghost use lib.Bits.{bitOr};
 ghost use lib.Count.{ones};
 ghost use Rattle.random.specs.Play.{on};
-ghost use Rattle.mania.specs.Steps.{least, greatest, clamped};
-ghost use Rattle.mania.specs.Sound.{hasFlag};
 ghost use Rattle.mania.specs.PatternType.{contains};
 ghost use Rattle.mania.specs.Pattern.{free, anyFree};
 ghost use Rattle.mania.specs.ManiaObject as ManiaObject;
 ghost use Rattle.mania.specs.PatternGenerator.{randomStart, getColumn, noteCount, getRandomNoteCount, getRandomColumn, nextColumn, stepTo, drawTo, searchOn, columnSearch, findAvailableColumn};
-ghost use Rattle.pattern.specs.Answers.{number, searchEnd};
+ghost use Rattle.pattern.specs.Answers.{number, searchEnd, columnOf};
 use floats::Way;
 use mania::Next;
 use mania::Stair;
@@ -49,7 +47,7 @@ pub enum ObjectEnd {
     Refused(u8, Draws),
 }
 
-// ---- the bits of a convert type and of a sound
+// ---- the bits of a convert type
 
 pub const FORCE_STACK: u16 = 1;
 
@@ -71,61 +69,13 @@ pub const STAIR: u16 = 2048;
 
 pub const REVERSE_STAIR: u16 = 4096;
 
-pub const WHISTLE: u8 = 2;
-
-pub const FINISH: u8 = 4;
-
-pub const CLAP: u8 = 8;
-
-// ---- floats that are no NaN
-
-// `x.min(y)`
-pub fn min(x: f64, y: f64) -> f64
-    ensures { λ r. ⌜ r ≡ least x y ⌝ }
-{
-    if y < x { y } else { x }
-}
-
-// `x.max(y)`
-pub fn max(x: f64, y: f64) -> f64
-    ensures { λ r. ⌜ r ≡ greatest x y ⌝ }
-{
-    if x < y { y } else { x }
-}
-
-// `x.clamp(low, high)`
-pub fn clamp(low: f64, high: f64, x: f64) -> f64
-    ensures { λ r. ⌜ r ≡ clamped low high x ⌝ }
-{
-    if x < low {
-        low
-    } else if high < x {
-        high
-    } else {
-        x
-    }
-}
-
-// The same of 32 bits.
-pub fn clamp_f32(low: f32, high: f32, x: f32) -> f32
-    ensures { λ r. ⌜ r ≡ clamped low high x ⌝ }
-{
-    if x < low {
-        low
-    } else if high < x {
-        high
-    } else {
-        x
-    }
-}
-
 // ---- bits
 
-// Whether a sound has one of the named bits.
-pub fn has_flag(sound: u8, bits: u8) -> bool
-    ensures { λ r. ⌜ r ≡ hasFlag sound bits ⌝ }
+// The column of a word's note.
+pub fn column_of(w: u64) -> u8
+    ensures { λ r. ⌜ r ≡ columnOf w ⌝ }
 {
-    sound & bits != 0
+    (w % 16) as u8
 }
 
 // Whether a convert type has all of the named bits.

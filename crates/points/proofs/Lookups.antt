@@ -16,6 +16,7 @@ use Rattle.model.specs.declared.EffectPoint.{EffectPoint}
 use Rattle.model.specs.ControlPoint.{beatFrom, beatAt, velocityFrom, velocityAt, kiaiFrom, kiaiAt}
 use Rattle.record.specs.declared.section.Section.{Section}
 use Rattle.record.specs.declared.section.Section.the-variants.{TimingPoints, DifficultyPoints, EffectPoints}
+use Rattle.record.specs.Layout as At
 use Rattle.record.specs.Refusal.{f64At, entries}
 use Rattle.record.specs.Section.{widthOf, entryEnd, readTimingPoint, readDifficultyPoint, readEffectPoint, timingPoints, difficultyPoints, effectPoints}
 use Rattle.record.specs.Lookup.{times, upTo, Rising}
@@ -34,15 +35,15 @@ unfolding Rising
 rising-by k s p n w e r i l = rw e (r i l)
 
 -- the points after the first rise too
-pub rising-rest : (s : List ℕ) (p n : ℕ) → Rising TimingPoints s p n → Rising TimingPoints s (p + 128) (n - 1)
+pub rising-rest : (s : List ℕ) (p n : ℕ) → Rising TimingPoints s p n → Rising TimingPoints s (p + At.entry) (n - 1)
 unfolding Rising
 rising-rest s p n r i l =
-    let a : p + 128 * (i + 1) ≡ p + 128 + 128 * i = omega arith in
-    let b : p + 128 * (i + 1 + 1) ≡ p + 128 + 128 * (i + 1) = omega arith in
+    let a : p + At.entry * (i + 1) ≡ p + At.entry + At.entry * i = omega arith in
+    let b : p + At.entry * (i + 1 + 1) ≡ p + At.entry + At.entry * (i + 1) = omega arith in
     rw (a, b) at (r (i + 1) (omega arith))
 
 -- an entry of a list is near its start
-pub near : (w m : ℕ) → w ≤ 128 → m ≤ 4095 → w * m ≤ 524160
+pub near : (w m : ℕ) → w ≤ At.entry → m ≤ 4095 → w * m ≤ 524160
 near w m h k = omega (arith, mul-le-mul-left w k)
 
 -- how many of n entries of w bits from bit p on are passed at the time t
@@ -237,7 +238,7 @@ module _ (s : List ℕ) where
   unfolding readTimingPoint
   timing-time p = refl
 
-  timing-beat : (p : ℕ) → readTimingPoint s p .beat ≡ f64At s (p + 64)
+  timing-beat : (p : ℕ) → readTimingPoint s p .beat ≡ f64At s (p + At.second)
   unfolding readTimingPoint
   timing-beat p = refl
 
@@ -245,7 +246,7 @@ module _ (s : List ℕ) where
   unfolding readDifficultyPoint
   difficulty-time p = refl
 
-  difficulty-velocity : (p : ℕ) → readDifficultyPoint s p .velocity ≡ f64At s (p + 64)
+  difficulty-velocity : (p : ℕ) → readDifficultyPoint s p .velocity ≡ f64At s (p + At.second)
   unfolding readDifficultyPoint
   difficulty-velocity p = refl
 
@@ -253,7 +254,7 @@ module _ (s : List ℕ) where
   unfolding readEffectPoint
   effect-time p = refl
 
-  effect-kiai : (p : ℕ) → readEffectPoint s p .kiai ≡ eqb (bits s (p + 64) 1) 1
+  effect-kiai : (p : ℕ) → readEffectPoint s p .kiai ≡ eqb (bits s (p + At.second) 1) 1
   unfolding readEffectPoint
   effect-kiai p = refl
 
@@ -262,25 +263,25 @@ module _ (s : List ℕ) where
   beat-default p n t e = rw e
 
   -- before the first timing point, the first; then the last that is not after t
-  pub beat-at : (p n : ℕ) (t : Float) (u : ℕ) → u ≡ passed TimingPoints s (p + 128) (n - 1) t → 0 < n → beatAt (timingPoints s p n) t ≡ f64At s (p + 128 * u + 64)
+  pub beat-at : (p n : ℕ) (t : Float) (u : ℕ) → u ≡ passed TimingPoints s (p + At.entry) (n - 1) t → 0 < n → beatAt (timingPoints s p n) t ≡ f64At s (p + At.entry * u + At.second)
   unfolding timingPoints times
   beat-at p n t u e h =
       ap (λ (l : List TimingPoint). beatAt l t) (entries-cons (readTimingPoint s) (entryEnd TimingPoints) p n h)
       ∙ (beat-cons _ _ t
-      ∙ (in-force (λ (x : TimingPoint). x .time) (λ (x : TimingPoint). x .beat) beatFrom (readTimingPoint s) (f64At s) 128 t (λ b. beat-none b t)
+      ∙ (in-force (λ (x : TimingPoint). x .time) (λ (x : TimingPoint). x .beat) beatFrom (readTimingPoint s) (f64At s) At.entry t (λ b. beat-none b t)
       (λ b x xs. beat-some b x xs t)
       timing-time
       (n - 1)
       p
-      ∙ (timing-beat _ ∙ ap (λ (k : ℕ). f64At s (p + 128 * k + 64)) (sym e))))
+      ∙ (timing-beat _ ∙ ap (λ (k : ℕ). f64At s (p + At.entry * k + At.second)) (sym e))))
 
   module _ (p n : ℕ) (t : Float) (u : ℕ) where
     velocity-by : u ≡ passed DifficultyPoints s p n t
         → ((u ≡ 0) → velocityAt (difficultyPoints s p n) t ≡ round binary64 false 1 1)
-        × ((u ≡ 0 → ⊥) → velocityAt (difficultyPoints s p n) t ≡ readDifficultyPoint s (p + 128 * (u - 1)) .velocity)
+        × ((u ≡ 0 → ⊥) → velocityAt (difficultyPoints s p n) t ≡ readDifficultyPoint s (p + At.entry * (u - 1)) .velocity)
     unfolding difficultyPoints times velocityAt
     velocity-by e =
-        in-force-or (λ (x : DifficultyPoint). x .time) (λ (x : DifficultyPoint). x .velocity) velocityFrom (readDifficultyPoint s) (f64At s) 128 t (λ b. velocity-none b t)
+        in-force-or (λ (x : DifficultyPoint). x .time) (λ (x : DifficultyPoint). x .velocity) velocityFrom (readDifficultyPoint s) (f64At s) At.entry t (λ b. velocity-none b t)
         (λ b x xs. velocity-some b x xs t)
         difficulty-time
         n
@@ -292,14 +293,14 @@ module _ (s : List ℕ) where
     pub velocity-first : u ≡ passed DifficultyPoints s p n t → u ≡ 0 → velocityAt (difficultyPoints s p n) t ≡ round binary64 false 1 1
     velocity-first e z = velocity-by e .0 z
 
-    pub velocity-last : u ≡ passed DifficultyPoints s p n t → (u ≡ 0 → ⊥) → velocityAt (difficultyPoints s p n) t ≡ f64At s (p + 128 * (u - 1) + 64)
+    pub velocity-last : u ≡ passed DifficultyPoints s p n t → (u ≡ 0 → ⊥) → velocityAt (difficultyPoints s p n) t ≡ f64At s (p + At.entry * (u - 1) + At.second)
     velocity-last e z = velocity-by e .1 z ∙ difficulty-velocity _
 
     kiai-by : u ≡ passed EffectPoints s p n t
-        → ((u ≡ 0) → kiaiAt (effectPoints s p n) t ≡ false) × ((u ≡ 0 → ⊥) → kiaiAt (effectPoints s p n) t ≡ readEffectPoint s (p + 65 * (u - 1)) .kiai)
+        → ((u ≡ 0) → kiaiAt (effectPoints s p n) t ≡ false) × ((u ≡ 0 → ⊥) → kiaiAt (effectPoints s p n) t ≡ readEffectPoint s (p + At.effectEntry * (u - 1)) .kiai)
     unfolding effectPoints times kiaiAt
     kiai-by e =
-        in-force-or (λ (x : EffectPoint). x .time) (λ (x : EffectPoint). x .kiai) kiaiFrom (readEffectPoint s) (f64At s) 65 t (λ b. kiai-none b t)
+        in-force-or (λ (x : EffectPoint). x .time) (λ (x : EffectPoint). x .kiai) kiaiFrom (readEffectPoint s) (f64At s) At.effectEntry t (λ b. kiai-none b t)
         (λ b x xs. kiai-some b x xs t)
         effect-time
         n
@@ -311,5 +312,5 @@ module _ (s : List ℕ) where
     pub kiai-first : u ≡ passed EffectPoints s p n t → u ≡ 0 → kiaiAt (effectPoints s p n) t ≡ false
     kiai-first e z = kiai-by e .0 z
 
-    pub kiai-last : u ≡ passed EffectPoints s p n t → (u ≡ 0 → ⊥) → kiaiAt (effectPoints s p n) t ≡ eqb (bits s (p + 65 * (u - 1) + 64) 1) 1
+    pub kiai-last : u ≡ passed EffectPoints s p n t → (u ≡ 0 → ⊥) → kiaiAt (effectPoints s p n) t ≡ eqb (bits s (p + At.effectEntry * (u - 1) + At.second) 1) 1
     kiai-last e z = kiai-by e .1 z ∙ effect-kiai _

@@ -8,6 +8,7 @@ use lib.Ieee.{Float, le}
 use Rattle.model.specs.ControlPoint.{beatAt, velocityAt, kiaiAt}
 use Rattle.record.specs.declared.section.Section.{Section}
 use Rattle.record.specs.declared.section.Section.the-variants.{TimingPoints, DifficultyPoints, EffectPoints}
+use Rattle.record.specs.Layout as At
 use Rattle.record.specs.Section.{timingPoints, difficultyPoints, effectPoints}
 use Rattle.record.specs.Lookup.{times, upTo}
 use Rattle.points.specs.declared.Passed.{Passed}
@@ -39,7 +40,7 @@ abbrev pub NumberLasts : Section → List ℕ → ℕ → ℕ → Passed → Typ
 NumberLasts k s p n r = Lasts (passed k s p n) (passed k s p n) n (r .number) r
 
 abbrev pub BeatLasts : List ℕ → ℕ → ℕ → Lasting → Type 0
-BeatLasts s p n c = Lasts (beatAt (timingPoints s p n)) (passed TimingPoints s (p + 128) (n - 1)) (n - 1) (c .value) (c .passed)
+BeatLasts s p n c = Lasts (beatAt (timingPoints s p n)) (passed TimingPoints s (p + At.entry) (n - 1)) (n - 1) (c .value) (c .passed)
 
 abbrev pub VelocityLasts : List ℕ → ℕ → ℕ → Lasting → Type 0
 VelocityLasts s p n c = Lasts (velocityAt (difficultyPoints s p n)) (passed DifficultyPoints s p n) n (c .value) (c .passed)

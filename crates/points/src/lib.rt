@@ -7,6 +7,9 @@ ghost use Rattle.record.specs.Section.{timingPoints, difficultyPoints, effectPo
 ghost use Rattle.record.specs.declared.section.Section.the-variants.{TimingPoints, DifficultyPoints, EffectPoints};
 ghost use Rattle.points.specs.Lasting.{within, passed, Known, NumberLasts, BeatLasts, VelocityLasts, KiaiLasts};
 use bits::read_flag;
+use record::layout::EFFECT_ENTRY;
+use record::layout::ENTRY;
+use record::layout::SECOND;
 use record::refusal::f64_at;
 use record::section::Section;
 use record::section::width_of;
@@ -84,8 +87,8 @@ pub fn timing_point_at(s: &[u8], at: usize, count: usize, c: Lasting, t: f64) ->
             passed: before,
         };
     }
-    let passed = points_up_to(Section::TimingPoints, s, at + 128, count - 1, before, t);
-    let value = f64_at(s, at + 128 * passed.number + 64);
+    let passed = points_up_to(Section::TimingPoints, s, at + ENTRY, count - 1, before, t);
+    let value = f64_at(s, at + ENTRY * passed.number + SECOND);
     Lasting { value, passed }
 }
 
@@ -101,7 +104,7 @@ pub fn difficulty_point_at(s: &[u8], at: usize, count: usize, c: Lasting, t: f64
     let passed = points_up_to(Section::DifficultyPoints, s, at, count, before, t);
     let mut value = 1.0;
     if passed.number > 0 {
-        value = f64_at(s, at + 128 * (passed.number - 1) + 64);
+        value = f64_at(s, at + ENTRY * (passed.number - 1) + SECOND);
     }
     Lasting { value, passed }
 }
@@ -118,7 +121,7 @@ pub fn effect_point_at(s: &[u8], at: usize, count: usize, c: LastingFlag, t: f64
     let passed = points_up_to(Section::EffectPoints, s, at, count, before, t);
     let mut value = false;
     if passed.number > 0 {
-        value = read_flag(s, at + 65 * (passed.number - 1) + 64) == 1;
+        value = read_flag(s, at + EFFECT_ENTRY * (passed.number - 1) + SECOND) == 1;
     }
     LastingFlag { value, passed }
 }

@@ -11,9 +11,10 @@ use lib.ListN.{length}
 use lib.Ieee.{Float, binary32, binary64, ofInt, round, lt}
 use Rattle.bits.specs.Field.{bits, short}
 use Rattle.floats.specs.Range.{within}
-use Rattle.model.specs.Each.{Each}
+use Rattle.rules.specs.Each.{Each}
 use Rattle.record.specs.declared.section.Section.{Section}
 use Rattle.record.specs.declared.section.Section.the-variants.{Breaks, TimingPoints, DifficultyPoints, EffectPoints}
+use Rattle.record.specs.Layout as At
 use Rattle.record.specs.Refusal.{_gives_, _then_, f64At}
 use Rattle.record.specs.Header.{countsOf}
 use Rattle.record.specs.Section.{entryEnd, noTime}
@@ -47,18 +48,18 @@ setting s p = field p 32 (out32 s p (ofInt binary32 (pos 0)) (ofInt binary32 (po
 -- version, key choice, hp, cs, od, ar, multiplier, counts of breaks, timing, difficulty and effect points, and objects
 unfoldable pub headerFields : List ℕ → List Field
 headerFields s =
-    field 0 4 (not (eqb (bits s 0 4) 1)) 2
-    ∷ field 4 4 (ltb 9 (bits s 4 4)) 3
-    ∷ setting s 8
-    ∷ setting s 40
-    ∷ setting s 72
-    ∷ setting s 104
-    ∷ field 136 64 (out64 s 136 (round binary64 false 4 10) (round binary64 false 36 10)) 4
-    ∷ plain 200 8
-    ∷ plain 208 12
-    ∷ plain 220 12
-    ∷ plain 232 12
-    ∷ plain 244 12
+    field At.version 4 (not (eqb (bits s At.version 4) 1)) 2
+    ∷ field At.keys 4 (ltb 9 (bits s At.keys 4)) 3
+    ∷ setting s At.hp
+    ∷ setting s At.cs
+    ∷ setting s At.od
+    ∷ setting s At.ar
+    ∷ field At.multiplier 64 (out64 s At.multiplier (round binary64 false 4 10) (round binary64 false 36 10)) 4
+    ∷ plain At.breakCount 8
+    ∷ plain At.timingCount 12
+    ∷ plain At.difficultyCount 12
+    ∷ plain At.effectCount 12
+    ∷ plain At.objectCount 12
     ∷ []
 
 -- a break or point time
@@ -70,12 +71,12 @@ abbrev pub pointTime : List ℕ → ℕ → Float → Field
 pointTime s p before = field p 64 (badTime s p || not (lt before (f64At s p))) 5
 
 unfoldable pub entryFields : Section → List ℕ → ℕ → Float → List Field
-entryFields Breaks s p before = field p 64 (badTime s p) 5 ∷ field (p + 64) 64 (badTime s (p + 64) || lt (f64At s (p + 64)) (f64At s p)) 5 ∷ []
+entryFields Breaks s p before = field p 64 (badTime s p) 5 ∷ field (p + At.second) 64 (badTime s (p + At.second) || lt (f64At s (p + At.second)) (f64At s p)) 5 ∷ []
 entryFields TimingPoints s p before =
-    pointTime s p before ∷ field (p + 64) 64 (out64 s (p + 64) (ofInt binary64 (pos 6)) (ofInt binary64 (pos 60000))) 5 ∷ []
+    pointTime s p before ∷ field (p + At.second) 64 (out64 s (p + At.second) (ofInt binary64 (pos 6)) (ofInt binary64 (pos 60000))) 5 ∷ []
 entryFields DifficultyPoints s p before =
-    pointTime s p before ∷ field (p + 64) 64 (out64 s (p + 64) (round binary64 false 1 10) (ofInt binary64 (pos 10))) 5 ∷ []
-entryFields EffectPoints s p before = pointTime s p before ∷ plain (p + 64) 1 ∷ []
+    pointTime s p before ∷ field (p + At.second) 64 (out64 s (p + At.second) (round binary64 false 1 10) (ofInt binary64 (pos 10))) 5 ∷ []
+entryFields EffectPoints s p before = pointTime s p before ∷ plain (p + At.second) 1 ∷ []
 
 -- a start or a duration
 abbrev pub badSpan : List ℕ → ℕ → Bool
@@ -97,8 +98,8 @@ nodeFields p (suc b) = plain p 4 ∷ []
 abbrev pub sliderFields : List ℕ → ℕ → List Field
 sliderFields s q =
     plain q 10
-    ∷ plain (q + 10) 1
-    ∷ (distanceFields s (q + 11) (bits s (q + 10) 1) ++ (plain (nodeBit s q) 1 ∷ nodeFields (nodeBit s q + 1) (bits s (nodeBit s q) 1)))
+    ∷ plain (q + At.isGiven) 1
+    ∷ (distanceFields s (q + At.distance) (bits s (q + At.isGiven) 1) ++ (plain (nodeBit s q) 1 ∷ nodeFields (nodeBit s q + 1) (bits s (nodeBit s q) 1)))
 
 -- by the kind's number, from bit q on
 unfoldable pub kindFields : List ℕ → ℕ → ℕ → List Field
@@ -111,11 +112,11 @@ unfoldable pub objectFields : List ℕ → ℕ → Float → List Field
 unfolding kindFields
 objectFields s p before =
     plain p 2
-    ∷ plain (p + 2) 4
-    ∷ coordinate s (p + 6)
-    ∷ coordinate s (p + 38)
-    ∷ field (p + 70) 64 (badSpan s (p + 70) || lt (startAt s p) before) 6
-    ∷ kindFields s (p + 134) (bits s p 2)
+    ∷ plain (p + At.sound) 4
+    ∷ coordinate s (p + At.x)
+    ∷ coordinate s (p + At.y)
+    ∷ field (p + At.start) 64 (badSpan s (p + At.start) || lt (startAt s p) before) 6
+    ∷ kindFields s (p + At.added) (bits s p 2)
 
 -- the fields of n entries from bit p on
 unfoldable pub entriesFields : (ℕ → Float → List Field) → (ℕ → ℕ) → (ℕ → Float) → ℕ → Float → ℕ → List Field
@@ -137,7 +138,7 @@ fieldsOf s =
     let n = countsOf s in
     let at = placesOf n in
     headerFields s
-    ++ (sectionFields Breaks s 256 (n .breaks)
+    ++ (sectionFields Breaks s At.breaks (n .breaks)
     ++ (sectionFields TimingPoints s (at .timing) (n .timing)
     ++ (sectionFields DifficultyPoints s (at .difficulty) (n .difficulty)
     ++ (sectionFields EffectPoints s (at .effect) (n .effect)

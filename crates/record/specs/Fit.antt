@@ -21,7 +21,7 @@ use Rattle.model.specs.declared.Kind.{Kind}
 use Rattle.model.specs.declared.Kind.the-variants.{Circle, Slider, Spinner, Hold}
 use Rattle.model.specs.declared.Object.{Object}
 use Rattle.model.specs.Song.{Song}
-use Rattle.model.specs.Each.{Each}
+use Rattle.rules.specs.Each.{Each}
 
 -- a float of the format, from lo to hi: no NaN, no infinity, no negative zero
 pub record Bounded (f : Format) (lo hi x : Float) : Type 0 where

@@ -1,4 +1,4 @@
--- The header: 256 bits at fixed places. Assumes nothing.
+-- The header: fields at fixed places. Assumes nothing.
 use Prim.Native.Nat.{ℕ, _≤_}
 use mathlib.Core.Bool.{not, false}
 use mathlib.Core.List.{List}
@@ -8,6 +8,7 @@ use lib.Ieee.{binary32, binary64, ofInt, round}
 use Rattle.bits.specs.Field.{bits, short}
 use Rattle.model.specs.declared.Settings.{Settings}
 use Rattle.record.specs.declared.header.Counts.{Counts}
+use Rattle.record.specs.Layout as At
 use Rattle.record.specs.Refusal.{_gives_, _then_, f32Refusal, f64Refusal, f32At, f64At}
 
 -- hp, cs, od and ar are from 0 to 10
@@ -18,35 +19,35 @@ settingRefusal s p = f32Refusal s p (ofInt binary32 (pos 0)) (ofInt binary32 (po
 -- the slider multiplier is from 0.4 to 3.6
 unfoldable pub multiplierRefusal : List ℕ → ℕ
 unfolding round f64Refusal
-multiplierRefusal s = f64Refusal s 136 (round binary64 false 4 10) (round binary64 false 36 10) 4
+multiplierRefusal s = f64Refusal s At.multiplier (round binary64 false 4 10) (round binary64 false 36 10) 4
 
 -- Version, key choice, hp, cs, od, ar, multiplier, and the five counts. A count can only be not whole, and no other condition stands between theirs, so
--- one condition at the end of the last, bit 256, gives the same number (`Laws.Row.whole-once`).
+-- one condition at the end of the last gives the same number (`Laws.Row.whole-once`).
 unfoldable pub headerRefusal : List ℕ → ℕ
 unfolding settingRefusal multiplierRefusal
 headerRefusal s =
-    short s 4 gives 1
-    then not (eqb (bits s 0 4) 1) gives 2
-    then short s 8 gives 1
-    then ltb 9 (bits s 4 4) gives 3
-    then settingRefusal s 8
-    then settingRefusal s 40
-    then settingRefusal s 72
-    then settingRefusal s 104
+    short s At.keys gives 1
+    then not (eqb (bits s At.version 4) 1) gives 2
+    then short s At.hp gives 1
+    then ltb 9 (bits s At.keys 4) gives 3
+    then settingRefusal s At.hp
+    then settingRefusal s At.cs
+    then settingRefusal s At.od
+    then settingRefusal s At.ar
     then multiplierRefusal s
-    then short s 256 gives 1
+    then short s At.breaks gives 1
 
 -- the key choice
 unfoldable pub keysOf : List ℕ → ℕ
-keysOf s = bits s 4 4
+keysOf s = bits s At.keys 4
 
 unfoldable pub settingsOf : List ℕ → Settings
 unfolding f32At f64At
-settingsOf s = record { hp = f32At s 8; cs = f32At s 40; od = f32At s 72; ar = f32At s 104; multiplier = f64At s 136 }
+settingsOf s = record { hp = f32At s At.hp; cs = f32At s At.cs; od = f32At s At.od; ar = f32At s At.ar; multiplier = f64At s At.multiplier }
 
 unfoldable pub countsOf : List ℕ → Counts
 countsOf s =
-    record { breaks = bits s 200 8; timing = bits s 208 12; difficulty = bits s 220 12; effect = bits s 232 12; objects = bits s 244 12 }
+    record { breaks = bits s At.breakCount 8; timing = bits s At.timingCount 12; difficulty = bits s At.difficultyCount 12; effect = bits s At.effectCount 12; objects = bits s At.objectCount 12 }
 
 -- what the widths of the counts say of them
 pub record SmallCounts (n : Counts) : Type 0 where

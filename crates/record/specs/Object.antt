@@ -16,13 +16,14 @@ use Rattle.model.specs.Totals.{lastStart, slidersAndSpinners}
 use Rattle.record.specs.declared.objects.ReadObject.{ReadObject}
 use Rattle.record.specs.declared.objects.Scan.{Scan}
 use Rattle.record.specs.declared.objects.Scan.the-variants.{Refused, Scanned}
+use Rattle.record.specs.Layout as At
 use Rattle.record.specs.Refusal.{_gives_, _then_, f32Refusal, f64Refusal, f32At, f64At, entriesRefusal, entries, entriesEnd}
 
 -- ---- what a kind adds, from bit q on
 
 -- A slider: repeats 10, a bit and, if it is 1, distance 64; a bit and, if it is 1, the first node sound 4. This is the place of the second bit.
 unfoldable pub nodeBit : List ℕ → ℕ → ℕ
-nodeBit s q = q + 11 + 64 * bits s (q + 10) 1
+nodeBit s q = q + At.distance + 64 * bits s (q + At.isGiven) 1
 
 unfoldable pub sliderEnd : List ℕ → ℕ → ℕ
 unfolding nodeBit
@@ -42,7 +43,7 @@ nodeBy s p (suc b) = NodeSound.Given (bits s p 4)
 unfoldable pub sliderAt : List ℕ → ℕ → Kind
 unfolding nodeBit distanceBy nodeBy
 sliderAt s q =
-    Slider (bits s q 10) (distanceBy s (q + 11) (bits s (q + 10) 1)) (nodeBy s (nodeBit s q + 1) (bits s (nodeBit s q) 1))
+    Slider (bits s q 10) (distanceBy s (q + At.distance) (bits s (q + At.isGiven) 1)) (nodeBy s (nodeBit s q + 1) (bits s (nodeBit s q) 1))
 
 -- by the kind's number: its value, its end, its refusal
 unfoldable pub kindBy : List ℕ → ℕ → ℕ → Kind
@@ -76,8 +77,8 @@ positionRefusal s p = f32Refusal s p (ofInt binary32 (negsuc 511)) (ofInt binary
 unfoldable pub sliderRefusal : List ℕ → ℕ → ℕ
 unfolding nodeBit sliderEnd distanceRefusal
 sliderRefusal s q =
-    short s (q + 11) gives 1
-    then distanceRefusal s (q + 11) (bits s (q + 10) 1)
+    short s (q + At.distance) gives 1
+    then distanceRefusal s (q + At.distance) (bits s (q + At.isGiven) 1)
     then short s (nodeBit s q + 1) gives 1
     then short s (sliderEnd s q) gives 1
 
@@ -92,21 +93,21 @@ kindRefusal s q (suc (suc k)) = spanRefusal s q
 -- its start
 unfoldable pub startAt : List ℕ → ℕ → Float
 unfolding f64At
-startAt s p = f64At s (p + 70)
+startAt s p = f64At s (p + At.start)
 
 unfoldable pub readObject : List ℕ → ℕ → Object
 unfolding kindBy f32At startAt
 readObject s p =
     record {
-      position = record { x = f32At s (p + 6); y = f32At s (p + 38) };
+      position = record { x = f32At s (p + At.x); y = f32At s (p + At.y) };
       start = startAt s p;
-      sound = bits s (p + 2) 4;
-      kind = kindBy s (p + 134) (bits s p 2);
+      sound = bits s (p + At.sound) 4;
+      kind = kindBy s (p + At.added) (bits s p 2);
     }
 
 unfoldable pub objectEnd : List ℕ → ℕ → ℕ
 unfolding kindEnd
-objectEnd s p = kindEnd s (p + 134) (bits s p 2)
+objectEnd s p = kindEnd s (p + At.added) (bits s p 2)
 
 -- the object with the place of the next
 unfoldable pub readAt : List ℕ → ℕ → ReadObject
@@ -118,12 +119,12 @@ readAt s p = record { object = readObject s p; next = objectEnd s p }
 unfoldable pub objectRefusal : List ℕ → ℕ → Float → ℕ
 unfolding positionRefusal spanRefusal kindRefusal startAt lt
 objectRefusal s p before =
-    short s (p + 6) gives 1
-    then positionRefusal s (p + 6)
-    then positionRefusal s (p + 38)
-    then spanRefusal s (p + 70)
+    short s (p + At.x) gives 1
+    then positionRefusal s (p + At.x)
+    then positionRefusal s (p + At.y)
+    then spanRefusal s (p + At.start)
     then lt (startAt s p) before gives 6
-    then kindRefusal s (p + 134) (bits s p 2)
+    then kindRefusal s (p + At.added) (bits s p 2)
 
 -- ---- n objects from bit p on
 

@@ -13,18 +13,19 @@ use Rattle.record.specs.declared.header.Places.{Places}
 use Rattle.record.specs.declared.Summary.{Summary}
 use Rattle.record.specs.declared.Checked.{Checked}
 use Rattle.record.specs.declared.Checked.the-variants.{Refused, Accepted}
+use Rattle.record.specs.Layout as At
 use Rattle.record.specs.Refusal.{_gives_, _then_}
 use Rattle.record.specs.Header.{headerRefusal, keysOf, settingsOf, countsOf}
 use Rattle.record.specs.Section.{sectionRefusal, breaks, timingPoints, difficultyPoints, effectPoints}
 use Rattle.record.specs.Object.{objectsRefusal, objects, objectsEnd, zeroStart}
 
--- where each list starts, by the counts; the breaks follow the 256 bits of the header
+-- where each list starts, by the counts; the breaks follow the header
 unfoldable pub placesOf : Counts → Places
 placesOf n =
-    let timing = 256 + 128 * n .breaks in
-    let difficulty = timing + 128 * n .timing in
-    let effect = difficulty + 128 * n .difficulty in
-    record { timing = timing; difficulty = difficulty; effect = effect; objects = effect + 65 * n .effect }
+    let timing = At.breaks + At.entry * n .breaks in
+    let difficulty = timing + At.entry * n .timing in
+    let effect = difficulty + At.entry * n .difficulty in
+    record { timing = timing; difficulty = difficulty; effect = effect; objects = effect + At.effectEntry * n .effect }
 
 -- no list starts past bit 2,000,000
 pub record NearPlaces (at : Places) : Type 0 where
@@ -37,7 +38,7 @@ pub record NearPlaces (at : Places) : Type 0 where
 unfoldable pub listsRefusal : List ℕ → Counts → ℕ
 unfolding sectionRefusal placesOf
 listsRefusal s n =
-    sectionRefusal Breaks s 256 (n .breaks)
+    sectionRefusal Breaks s At.breaks (n .breaks)
     then sectionRefusal TimingPoints s (placesOf n .timing) (n .timing)
     then sectionRefusal DifficultyPoints s (placesOf n .difficulty) (n .difficulty)
     then sectionRefusal EffectPoints s (placesOf n .effect) (n .effect)
@@ -69,7 +70,7 @@ songOf s =
     record {
       keys = keysOf s;
       settings = settingsOf s;
-      breaks = breaks s 256 (n .breaks);
+      breaks = breaks s At.breaks (n .breaks);
       timingPoints = timingPoints s (at .timing) (n .timing);
       difficultyPoints = difficultyPoints s (at .difficulty) (n .difficulty);
       effectPoints = effectPoints s (at .effect) (n .effect);

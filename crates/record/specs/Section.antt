@@ -12,14 +12,15 @@ use Rattle.model.specs.declared.DifficultyPoint.{DifficultyPoint}
 use Rattle.model.specs.declared.EffectPoint.{EffectPoint}
 use Rattle.record.specs.declared.section.Section.{Section}
 use Rattle.record.specs.declared.section.Section.the-variants.{Breaks, TimingPoints, DifficultyPoints, EffectPoints}
+use Rattle.record.specs.Layout as At
 use Rattle.record.specs.Refusal.{_gives_, _then_, f64Refusal, f64At, entriesRefusal, entries}
 
 -- the bits of an entry
 abbrev pub widthOf : Section → ℕ
-widthOf Breaks = 128
-widthOf TimingPoints = 128
-widthOf DifficultyPoints = 128
-widthOf EffectPoints = 65
+widthOf Breaks = At.entry
+widthOf TimingPoints = At.entry
+widthOf DifficultyPoints = At.entry
+widthOf EffectPoints = At.effectEntry
 
 -- where the entry at bit p ends
 abbrev pub entryEnd : Section → ℕ → ℕ
@@ -46,10 +47,10 @@ risingRefusal s p before = timeRefusal s p then not (lt before (f64At s p)) give
 -- The entry at bit p. A break's start is not above its end, and breaks have no order. Kiai can only be not whole.
 unfoldable pub entryRefusal : Section → List ℕ → ℕ → Float → ℕ
 unfolding timeRefusal risingRefusal beatRefusal velocityRefusal f64At lt
-entryRefusal Breaks s p before = timeRefusal s p then timeRefusal s (p + 64) then lt (f64At s (p + 64)) (f64At s p) gives 5
-entryRefusal TimingPoints s p before = risingRefusal s p before then beatRefusal s (p + 64)
-entryRefusal DifficultyPoints s p before = risingRefusal s p before then velocityRefusal s (p + 64)
-entryRefusal EffectPoints s p before = risingRefusal s p before then short s (p + 65) gives 1
+entryRefusal Breaks s p before = timeRefusal s p then timeRefusal s (p + At.second) then lt (f64At s (p + At.second)) (f64At s p) gives 5
+entryRefusal TimingPoints s p before = risingRefusal s p before then beatRefusal s (p + At.second)
+entryRefusal DifficultyPoints s p before = risingRefusal s p before then velocityRefusal s (p + At.second)
+entryRefusal EffectPoints s p before = risingRefusal s p before then short s (p + At.effectEntry) gives 1
 
 -- below every time: stands before the first point's
 unfoldable pub noTime : Float
@@ -64,19 +65,19 @@ sectionRefusal k s p n = entriesRefusal (entryRefusal k s) (entryEnd k) (f64At s
 -- the values of an entry at bit p
 unfoldable pub readBreak : List ℕ → ℕ → BreakPeriod
 unfolding f64At
-readBreak s p = record { start = f64At s p; end = f64At s (p + 64) }
+readBreak s p = record { start = f64At s p; end = f64At s (p + At.second) }
 
 unfoldable pub readTimingPoint : List ℕ → ℕ → TimingPoint
 unfolding f64At
-readTimingPoint s p = record { time = f64At s p; beat = f64At s (p + 64) }
+readTimingPoint s p = record { time = f64At s p; beat = f64At s (p + At.second) }
 
 unfoldable pub readDifficultyPoint : List ℕ → ℕ → DifficultyPoint
 unfolding f64At
-readDifficultyPoint s p = record { time = f64At s p; velocity = f64At s (p + 64) }
+readDifficultyPoint s p = record { time = f64At s p; velocity = f64At s (p + At.second) }
 
 unfoldable pub readEffectPoint : List ℕ → ℕ → EffectPoint
 unfolding f64At
-readEffectPoint s p = record { time = f64At s p; kiai = eqb (bits s (p + 64) 1) 1 }
+readEffectPoint s p = record { time = f64At s p; kiai = eqb (bits s (p + At.second) 1) 1 }
 
 -- the n entries from bit p on
 unfoldable pub breaks : List ℕ → ℕ → ℕ → List BreakPeriod

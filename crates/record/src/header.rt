@@ -1,8 +1,9 @@
-// The header: 256 bits at fixed places.
+// The header: fields at fixed places.
 ghost use mathlib.Core.Path.{_≡_};
 ghost use Prim.Native.Nat.{_≤_};
 ghost use Rattle.record.specs.Header.{settingRefusal, multiplierRefusal, headerRefusal, keysOf, settingsOf, countsOf, SmallCounts};
 ghost use Rattle.record.specs.Record.{placesOf, NearPlaces};
+use crate::layout;
 use crate::refusal::f32_at;
 use crate::refusal::f32_refusal;
 use crate::refusal::f64_at;
@@ -22,7 +23,7 @@ pub struct Counts {
     pub objects: usize,
 }
 
-// Where each list starts, in bits; the breaks start at 256.
+// Where each list starts, in bits; the breaks start at `layout::BREAKS`.
 pub struct Places {
     pub timing: usize,
     pub difficulty: usize,
@@ -40,22 +41,22 @@ fn setting_refusal(s: &[u8], at: usize) -> u8
 fn multiplier_refusal(s: &[u8]) -> u8
     ensures { λ r. ⌜ r ≡ multiplierRefusal (now (s .entry)) ⌝ }
 {
-    f64_refusal(s, 136, 0.4, 3.6, 4)
+    f64_refusal(s, layout::MULTIPLIER, 0.4, 3.6, 4)
 }
 
 pub fn header_refusal(s: &[u8]) -> u8
     ensures { λ r. ⌜ r ≡ headerRefusal (now (s .entry)) ⌝ }
 {
-    let version_short = refuse(is_short(s, 4), 1);
-    let version = refuse(read_bits(s, 0, 4) != 1, 2);
-    let keys_short = refuse(is_short(s, 8), 1);
-    let keys = refuse(read_bits(s, 4, 4) > 9, 3);
-    let hp = setting_refusal(s, 8);
-    let cs = setting_refusal(s, 40);
-    let od = setting_refusal(s, 72);
-    let ar = setting_refusal(s, 104);
+    let version_short = refuse(is_short(s, layout::KEYS), 1);
+    let version = refuse(read_bits(s, layout::VERSION, 4) != 1, 2);
+    let keys_short = refuse(is_short(s, layout::HP), 1);
+    let keys = refuse(read_bits(s, layout::KEYS, 4) > 9, 3);
+    let hp = setting_refusal(s, layout::HP);
+    let cs = setting_refusal(s, layout::CS);
+    let od = setting_refusal(s, layout::OD);
+    let ar = setting_refusal(s, layout::AR);
     let multiplier = multiplier_refusal(s);
-    let counts = refuse(is_short(s, 256), 1);
+    let counts = refuse(is_short(s, layout::BREAKS), 1);
     let settings = first(
         hp,
         first(cs, first(od, first(ar, first(multiplier, counts)))),
@@ -69,17 +70,17 @@ pub fn header_refusal(s: &[u8]) -> u8
 pub fn keys_of(s: &[u8]) -> u8
     ensures { λ r. ⌜ r ≡ keysOf (now (s .entry)) ⌝ }
 {
-    read_bits(s, 4, 4) as u8
+    read_bits(s, layout::KEYS, 4) as u8
 }
 
 pub fn settings_of(s: &[u8]) -> Settings
     ensures { λ r. ⌜ r ≡ settingsOf (now (s .entry)) ⌝ }
 {
-    let hp = f32_at(s, 8);
-    let cs = f32_at(s, 40);
-    let od = f32_at(s, 72);
-    let ar = f32_at(s, 104);
-    let multiplier = f64_at(s, 136);
+    let hp = f32_at(s, layout::HP);
+    let cs = f32_at(s, layout::CS);
+    let od = f32_at(s, layout::OD);
+    let ar = f32_at(s, layout::AR);
+    let multiplier = f64_at(s, layout::MULTIPLIER);
     Settings {
         hp,
         cs,
@@ -92,11 +93,11 @@ pub fn settings_of(s: &[u8]) -> Settings
 pub fn counts_of(s: &[u8]) -> Counts
     ensures { λ r. ⌜ (r ≡ countsOf (now (s .entry))) × SmallCounts r ⌝ }
 {
-    let breaks = read_bits(s, 200, 8) as usize;
-    let timing = read_bits(s, 208, 12) as usize;
-    let difficulty = read_bits(s, 220, 12) as usize;
-    let effect = read_bits(s, 232, 12) as usize;
-    let objects = read_bits(s, 244, 12) as usize;
+    let breaks = read_bits(s, layout::BREAK_COUNT, 8) as usize;
+    let timing = read_bits(s, layout::TIMING_COUNT, 12) as usize;
+    let difficulty = read_bits(s, layout::DIFFICULTY_COUNT, 12) as usize;
+    let effect = read_bits(s, layout::EFFECT_COUNT, 12) as usize;
+    let objects = read_bits(s, layout::OBJECT_COUNT, 12) as usize;
     Counts {
         breaks,
         timing,
@@ -110,10 +111,10 @@ pub fn places_of(n: Counts) -> Places
     requires { ⌜ SmallCounts n ⌝ }
     ensures { λ r. ⌜ (r ≡ placesOf n) × NearPlaces r ⌝ }
 {
-    let timing = 256 + 128 * n.breaks;
-    let difficulty = timing + 128 * n.timing;
-    let effect = difficulty + 128 * n.difficulty;
-    let objects = effect + 65 * n.effect;
+    let timing = layout::BREAKS + layout::ENTRY * n.breaks;
+    let difficulty = timing + layout::ENTRY * n.timing;
+    let effect = difficulty + layout::ENTRY * n.difficulty;
+    let objects = effect + layout::EFFECT_ENTRY * n.effect;
     Places {
         timing,
         difficulty,

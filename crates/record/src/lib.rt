@@ -1,5 +1,6 @@
 // The job record: its definition, and the checks and values of its header and its lists.
 pub mod header;
+pub mod layout;
 pub mod objects;
 pub mod refusal;
 pub mod section;

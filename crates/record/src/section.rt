@@ -5,6 +5,7 @@ ghost use Prim.Native.Nat.{_≤_};
 ghost use lib.Ieee.{binary64, round};
 ghost use Rattle.model.specs.Totals.{breakTime};
 ghost use Rattle.record.specs.Section.{widthOf, timeRefusal, beatRefusal, velocityRefusal, risingRefusal, entryRefusal, sectionRefusal, noTime, breaks};
+use crate::layout;
 use crate::refusal::f64_at;
 use crate::refusal::f64_refusal;
 use crate::refusal::first;
@@ -23,10 +24,10 @@ pub fn width_of(section: Section) -> usize
     ensures { λ r. ⌜ r ≡ widthOf section ⌝ }
 {
     match section {
-        Section::Breaks => 128,
-        Section::TimingPoints => 128,
-        Section::DifficultyPoints => 128,
-        Section::EffectPoints => 65,
+        Section::Breaks => layout::ENTRY,
+        Section::TimingPoints => layout::ENTRY,
+        Section::DifficultyPoints => layout::ENTRY,
+        Section::EffectPoints => layout::EFFECT_ENTRY,
     }
 }
 
@@ -66,8 +67,8 @@ fn break_refusal(s: &[u8], at: usize) -> u8
     ensures { λ r. ⌜ r ≡ entryRefusal Section.Breaks (now (s .entry)) at noTime ⌝ }
 {
     let start = time_refusal(s, at);
-    let end = time_refusal(s, at + 64);
-    let order = refuse(f64_at(s, at + 64) < f64_at(s, at), 5);
+    let end = time_refusal(s, at + layout::SECOND);
+    let order = refuse(f64_at(s, at + layout::SECOND) < f64_at(s, at), 5);
     first(start, first(end, order))
 }
 
@@ -78,14 +79,20 @@ fn entry_refusal(section: Section, s: &[u8], at: usize, before: f64) -> u8
 {
     match section {
         Section::Breaks => break_refusal(s, at),
-        Section::TimingPoints => first(rising_refusal(s, at, before), beat_refusal(s, at + 64)),
+        Section::TimingPoints => first(
+            rising_refusal(s, at, before),
+            beat_refusal(s, at + layout::SECOND),
+        ),
         Section::DifficultyPoints => {
-            first(rising_refusal(s, at, before), velocity_refusal(s, at + 64))
+            first(
+                rising_refusal(s, at, before),
+                velocity_refusal(s, at + layout::SECOND),
+            )
         }
         Section::EffectPoints => {
             first(
                 rising_refusal(s, at, before),
-                refuse(is_short(s, at + 65), 1),
+                refuse(is_short(s, at + layout::EFFECT_ENTRY), 1),
             )
         }
     }
@@ -121,10 +128,10 @@ pub fn total_break_time(s: &[u8], at: usize, count: usize) -> f64
     let mut sum: f64 = 0.0;
     let mut left = count;
     while left > 0 {
-        let end = f64_at(s, here + 64);
+        let end = f64_at(s, here + layout::SECOND);
         let start = f64_at(s, here);
         sum = sum + (end - start);
-        here += 128;
+        here += layout::ENTRY;
         left -= 1;
     }
     sum

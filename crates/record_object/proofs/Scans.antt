@@ -7,6 +7,7 @@ use lib.Ieee.{Float}
 use Rattle.bits.specs.Field.{bits}
 use Rattle.model.specs.Totals.{lastStart, slidersAndSpinners}
 use Rattle.record.specs.declared.objects.Scan.the-variants.{Refused, Scanned}
+use Rattle.record.specs.Layout as At
 use Rattle.record.specs.Refusal.{entriesRefusal, entries, entriesEnd}
 use Rattle.record.specs.Object.{startAt, readObject, objectEnd, objectRefusal, objectsRefusal, objects, objectsEnd, zeroStart, scanBy, scan}
 use Rattle.record.specs.Post.{isLong}
@@ -40,7 +41,7 @@ numbers-next : (s : List ℕ) (p n long : ℕ) → 0 < n
     → long + slidersAndSpinners (objects s p n) ≡ long + isLong (bits s p 2) + slidersAndSpinners (objects s (objectEnd s p) (n - 1))
 unfolding slidersAndSpinners readObject
 numbers-next s p n long h =
-    rw (objects-cons s p n h, longer-by s (p + 134) (bits s p 2) (slidersAndSpinners (objects s (objectEnd s p) (n - 1)))) (omega arith)
+    rw (objects-cons s p n h, longer-by s (p + At.added) (bits s p 2) (slidersAndSpinners (objects s (objectEnd s p) (n - 1)))) (omega arith)
 
 none-refused : (s : List ℕ) (p : ℕ) (last : Float) (n : ℕ) → n ≡ 0 → entriesRefusal (objectRefusal s) (objectEnd s) (startAt s) p last n ≡ 0
 unfolding entriesRefusal

@@ -2,6 +2,7 @@
 ghost use mathlib.Core.Path.{_≡_};
 ghost use Prim.Native.Nat.{_≤_, _+_, _*_};
 ghost use Rattle.bits.specs.Field.{bits};
+ghost use Rattle.record.specs.Layout as At;
 ghost use Rattle.record.specs.Object.{nodeBit, sliderEnd, distanceBy, nodeBy, sliderAt, kindBy, spanRefusal, distanceRefusal, positionRefusal, sliderRefusal, kindRefusal, readObject, objectEnd, readAt, objectRefusal, scan};
 ghost use Rattle.record.specs.Post.{isLong, EndBy};
 use bits::is_short;
@@ -12,6 +13,7 @@ use model::Kind;
 use model::NodeSound;
 use model::Object;
 use model::Position;
+use record::layout;
 use record::objects::ReadObject;
 use record::objects::Scan;
 use record::refusal::f32_at;
@@ -40,8 +42,8 @@ fn node_bit(s: &[u8], at: usize) -> usize
     requires { ⌜ at ≤ 900000000 ⌝ }
     ensures { λ r. ⌜ (r ≡ nodeBit (now (s .entry)) at) × (r ≤ at + 75) ⌝ }
 {
-    let given = read_flag(s, at + 10);
-    at + 11 + 64 * given
+    let given = read_flag(s, at + layout::IS_GIVEN);
+    at + layout::DISTANCE + 64 * given
 }
 
 fn slider_end(s: &[u8], at: usize) -> usize
@@ -78,7 +80,11 @@ fn slider_at(s: &[u8], at: usize) -> Kind
     ensures { λ r. ⌜ r ≡ sliderAt (now (s .entry)) at ⌝ }
 {
     let repeats = read_repeats(s, at);
-    let distance = distance_by(s, at + 11, read_flag(s, at + 10));
+    let distance = distance_by(
+        s,
+        at + layout::DISTANCE,
+        read_flag(s, at + layout::IS_GIVEN),
+    );
     let bit = node_bit(s, at);
     let node = node_by(s, bit + 1, read_flag(s, bit));
     Kind::Slider {
@@ -105,11 +111,11 @@ fn object_at(s: &[u8], at: usize) -> Object
     requires { ⌜ at ≤ 800000000 ⌝ }
     ensures { λ r. ⌜ r ≡ readObject (now (s .entry)) at ⌝ }
 {
-    let sound = read_sound(s, at + 2);
-    let x = f32_at(s, at + 6);
-    let y = f32_at(s, at + 38);
-    let start = f64_at(s, at + 70);
-    let kind = kind_by(s, at + 134, read_bits(s, at, 2));
+    let sound = read_sound(s, at + layout::SOUND);
+    let x = f32_at(s, at + layout::X);
+    let y = f32_at(s, at + layout::Y);
+    let start = f64_at(s, at + layout::START);
+    let kind = kind_by(s, at + layout::ADDED, read_bits(s, at, 2));
     let position = Position { x, y };
     Object {
         position,
@@ -122,20 +128,20 @@ fn object_at(s: &[u8], at: usize) -> Object
 // Where the object at bit `at` ends.
 fn object_end(s: &[u8], at: usize) -> usize
     requires { ⌜ at ≤ 800000000 ⌝ }
-    ensures { λ r. ⌜ (r ≡ objectEnd (now (s .entry)) at) × (r ≤ at + 214) ⌝ }
+    ensures { λ r. ⌜ (r ≡ objectEnd (now (s .entry)) at) × (r ≤ at + At.longest) ⌝ }
 {
     let kind = read_bits(s, at, 2);
     match kind {
-        0 => at + 134,
-        1 => slider_end(s, at + 134),
-        _ => at + 198,
+        0 => at + layout::ADDED,
+        1 => slider_end(s, at + layout::ADDED),
+        _ => at + layout::DURATION_END,
     }
 }
 
 // The object at bit `at`, with the place of the next. The walk's part of a record starts at the byte of the first object's first bit.
 pub fn read_object(part: &[u8], at: usize) -> ReadObject
     requires { ⌜ at ≤ 800000000 ⌝ }
-    ensures { λ r. ⌜ (r ≡ readAt (now (part .entry)) at) × (r .next ≤ at + 214) ⌝ }
+    ensures { λ r. ⌜ (r ≡ readAt (now (part .entry)) at) × (r .next ≤ at + At.longest) ⌝ }
 {
     let object = object_at(part, at);
     let next = object_end(part, at);
@@ -172,8 +178,12 @@ fn slider_refusal(s: &[u8], at: usize) -> u8
     requires { ⌜ at ≤ 900000000 ⌝ }
     ensures { λ r. ⌜ r ≡ sliderRefusal (now (s .entry)) at ⌝ }
 {
-    let whole = refuse(is_short(s, at + 11), 1);
-    let distance = distance_refusal(s, at + 11, read_flag(s, at + 10));
+    let whole = refuse(is_short(s, at + layout::DISTANCE), 1);
+    let distance = distance_refusal(
+        s,
+        at + layout::DISTANCE,
+        read_flag(s, at + layout::IS_GIVEN),
+    );
     let node = refuse(is_short(s, node_bit(s, at) + 1), 1);
     let sound = refuse(is_short(s, slider_end(s, at)), 1);
     first(whole, first(distance, first(node, sound)))
@@ -195,12 +205,12 @@ fn object_refusal(s: &[u8], at: usize, before: f64) -> u8
     requires { ⌜ at ≤ 800000000 ⌝ }
     ensures { λ r. ⌜ r ≡ objectRefusal (now (s .entry)) at before ⌝ }
 {
-    let whole = refuse(is_short(s, at + 6), 1);
-    let x = position_refusal(s, at + 6);
-    let y = position_refusal(s, at + 38);
-    let start = span_refusal(s, at + 70);
-    let order = refuse(f64_at(s, at + 70) < before, 6);
-    let kind = kind_refusal(s, at + 134, read_bits(s, at, 2));
+    let whole = refuse(is_short(s, at + layout::X), 1);
+    let x = position_refusal(s, at + layout::X);
+    let y = position_refusal(s, at + layout::Y);
+    let start = span_refusal(s, at + layout::START);
+    let order = refuse(f64_at(s, at + layout::START) < before, 6);
+    let kind = kind_refusal(s, at + layout::ADDED, read_bits(s, at, 2));
     first(whole, first(x, first(y, first(start, first(order, kind)))))
 }
 
@@ -221,7 +231,7 @@ fn is_long(s: &[u8], at: usize) -> usize
 // `count` objects from bit `at` on.
 pub fn scan_objects(s: &[u8], at: usize, count: usize) -> Scan
     requires { ⌜ (at ≤ 100000000) × (count ≤ 4095) ⌝ }
-    ensures { λ r. ⌜ (r ≡ scan (now (s .entry)) at count) × EndBy (at + 214 * count) r ⌝ }
+    ensures { λ r. ⌜ (r ≡ scan (now (s .entry)) at count) × EndBy (at + At.longest * count) r ⌝ }
 {
     let mut here = at;
     let mut last: f64 = 0.0;
@@ -232,7 +242,7 @@ pub fn scan_objects(s: &[u8], at: usize, count: usize) -> Scan
         if refusal != 0 {
             return Scan::Refused(refusal);
         }
-        last = f64_at(s, here + 70);
+        last = f64_at(s, here + layout::START);
         long += is_long(s, here);
         here = object_end(s, here);
         left -= 1;

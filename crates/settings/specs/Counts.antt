@@ -7,7 +7,8 @@ use Rattle.rules.specs.Rule.{if_then_else_}
 use Rattle.floats.specs.Whole.{whole, count}
 use Rattle.floats.specs.declared.Way.the-variants.{Cut, Even}
 use Rattle.model.specs.declared.Settings.{Settings}
-use Rattle.mania.specs.Steps.{single, double, double#, least, clamped}
+use Rattle.floats.specs.Least.{least, clamped}
+use Rattle.mania.specs.Steps.{single, double, double#}
 use Rattle.mania.specs.Convert.{columnsByOd, columnsByShare}
 use Rattle.mania.specs.PatternGenerator.{orTenThousand}
 

@@ -17,14 +17,14 @@ use lib.Ieee.Exact.{HasValue}
 use lib.Ieee.Fits.{up-pos, down-pos}
 use lib.Ieee.Positive.{num, den}
 use lib.Ieee.Scale.{finite}
-use Rattle.rules.specs.Rule.{if_then_else_}
 use Rattle.floats.specs.Whole.{whole, rounded, signed}
 use Rattle.floats.specs.Laws.Values.{UpTo, le-not-lt, round-at-most}
 use Rattle.floats.specs.declared.Way.the-variants.{Cut}
 use Rattle.model.specs.declared.Settings.{Settings}
 use Rattle.model.specs.declared.BreakPeriod.{BreakPeriod}
 use Rattle.model.specs.declared.Object.{Object}
-use Rattle.mania.specs.Steps.{single, double, double#, least, clamped}
+use Rattle.floats.specs.Least.{least, clamped}
+use Rattle.mania.specs.Steps.{single, double, double#}
 use Rattle.mania.specs.PatternGenerator.{orTenThousand, conversionDifficulty}
 use Rattle.model.specs.Totals.{breakTime, firstStart, lastStart}
 use Rattle.settings.specs.Counts.{drainOf, difficultyOf}
@@ -201,7 +201,7 @@ small-clamped : (x : Float) → Small 10 x → Small 10 (clamped (single 4 1) (s
 unfolding clamped
 small-clamped x h = pick (lt x (single 4 1)) (lt (single 7 1) x)
   where
-    pick : (a b : Bool) → Small 10 (if a then single 4 1 else if b then single 7 1 else x)
+    pick : (a b : Bool) → Small 10 (cond a (single 4 1) (cond b (single 7 1) x))
     pick true b = round-small binary32 false 4 1 10 (lit< tt) (lit≤ tt) (lit≤ tt)
     pick false true = round-small binary32 false 7 1 10 (lit< tt) (lit≤ tt) (lit≤ tt)
     pick false false = h
@@ -242,7 +242,7 @@ least-twelve : (x : Float) → T (finite x) → Twelve (least x (double 12 1))
 unfolding least
 least-twelve x f = pick (lt (double 12 1) x) refl
   where
-    pick : (b : Bool) → lt (double 12 1) x ≡ b → Twelve (if b then double 12 1 else x)
+    pick : (b : Bool) → lt (double 12 1) x ≡ b → Twelve (cond b (double 12 1) x)
     pick true h = twelve
     pick false h = record { real = is-true (finite x) f; most = is-true (le x (double 12 1)) (not-above x f h) }
 

@@ -109,7 +109,7 @@ pub fn conversion_difficulty(s: Settings, breaks: f64, first: f64, last: f64, ob
     ensures { λ r. ⌜ r ≡ difficultyOf s breaks first last objects ⌝ }
 {
     let drain = drain_time(breaks, first, last);
-    let life = std::num::f32_to_f64_with_nan(s.hp + pattern::clamp_f32(4.0, 7.0, s.ar)) / 1.5;
+    let life = std::num::f32_to_f64_with_nan(s.hp + floats::clamp_f32(4.0, 7.0, s.ar)) / 1.5;
     let pace = (objects as f64) / (drain as f64) * 9.0;
-    pattern::min((life + pace) / 38.0 * 5.0 / 1.15, 12.0)
+    floats::min((life + pace) / 38.0 * 5.0 / 1.15, 12.0)
 }

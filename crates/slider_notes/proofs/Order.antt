@@ -1,6 +1,6 @@
 -- One word more of a buffer, in the lists of the definition. Assumes nothing.
 use mathlib.Core.Path.{_≡_, refl, sym, ap, _∙_}
-use Prim.Native.Nat.{ℕ, suc, _+_, _-_, _*_, _%_, _/_, _^_, _≤_, _<_}
+use Prim.Native.Nat.{ℕ, suc, _+_, _-_, _*_, _%_, _^_, _≤_, _<_}
 use native.Mathlib.Nat.{mod-lt}
 use native.Mathlib.Numerals.{add-one}
 use native.Mathlib.Omega.{arith}
@@ -16,7 +16,7 @@ use Rattle.rules.specs.Rule.{if_then_else_}
 use Rattle.mania.specs.declared.SliderNote.{SliderNote}
 use Rattle.mania.specs.Pattern.{Pattern, put, empty}
 use Rattle.mania.specs.PathObject.{others, ending}
-use Rattle.pattern.specs.Answers.{pattern}
+use Rattle.pattern.specs.Answers.{columnOf, pattern}
 use Rattle.pattern.specs.Laws.Words.{one-more}
 use Rattle.slider_notes.specs.Words.{ofWord, Put}
 use Rattle.pattern.specs.declared.Pattern as Lent
@@ -81,16 +81,12 @@ pub endings-end : (end : ℕ) → endings end [] ≡ 0
 unfolding endings
 endings-end end = refl
 
-column-small : (w : ℕ) → ofWord w .column < 16
-unfolding ofWord
-column-small w = mod-lt (w / 2 ^ 52) (pow-pos 4)
+pub column-lt : (w c : ℕ) → c ≡ columnOf w → c < 16
+column-lt w c e = rw e (mod-lt w (pow-pos 4))
 
-pub column-lt : (w c : ℕ) → c ≡ ofWord w .column → c < 16
-column-lt w c e = rw e (column-small w)
-
-pub copied : (entry : List ℕ) (p : Lent.Pattern) (w c : ℕ) → c ≡ ofWord w .column → p .count < length entry
+pub copied : (entry : List ℕ) (p : Lent.Pattern) (w c : ℕ) → c ≡ columnOf w → p .count < length entry
     → Put entry (set entry (p .count) w) p (ofWord w) (record { mask = bitOr (p .mask) (1 * 2 ^ c % 65536); last = c; count = p .count + 1 })
-unfolding pattern put
+unfolding pattern put ofWord
 copied entry p w c e room =
     let b : 2 ^ c ≡ 1 * 2 ^ c % 65536 = bit-is c (column-lt w c e) in
     record { is = rw (one-more ofWord entry (p .count) w room, ← b, e); more = refl }

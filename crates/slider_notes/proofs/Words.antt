@@ -25,16 +25,18 @@ pub bit-is : (c : ℕ) → c < 16 → 2 ^ c ≡ 1 * 2 ^ c % 65536
 bit-is c h = sym (shl-exact 1 c 16 (lit< tt) (omega arith) ∙ one-mul (2 ^ c))
 
 -- a word is read back
-pub word-back : (c s e : ℕ) → c < 16 → s < 2 ^ 26 → e < 2 ^ 26 → ofWord (c * 2 ^ 52 + s * 2 ^ 26 + e) ≡ sliderNote c s e
+pub word-back : (c s e : ℕ) → c < 16 → s < 2 ^ 26 → e < 2 ^ 26 → ofWord (e * 2 ^ 30 + s * 2 ^ 4 + c) ≡ sliderNote c s e
 unfolding ofWord
 word-back c s e hc hs he =
-    let w = c * 2 ^ 52 + s * 2 ^ 26 + e in
-    let a : w / 2 ^ 52 % 2 ^ 4 ≡ c = omega arith in
-    let b : w / 2 ^ 26 % 2 ^ 26 ≡ s = omega arith in
-    let x : w % 2 ^ 26 ≡ e = omega arith in
+    let w = e * 2 ^ 30 + s * 2 ^ 4 + c in
+    let a : w % 2 ^ 4 ≡ c = omega arith in
+    let q : w / 2 ^ 4 ≡ e * 2 ^ 26 + s = omega arith in
+    let b : w / 2 ^ 4 % 2 ^ 26 ≡ s = rw q (omega arith) in
+    let r : w / 2 ^ 30 ≡ e = omega arith in
+    let x : w / 2 ^ 30 % 2 ^ 26 ≡ e = rw r (omega arith) in
     rw (a, b, x)
 
-pub written : (entry : List ℕ) (p : Lent.Pattern) (c s e w : ℕ) → c < 9 → s < 2 ^ 26 → e < 2 ^ 26 → p .count < length entry → w ≡ c * 2 ^ 52 + s * 2 ^ 26 + e
+pub written : (entry : List ℕ) (p : Lent.Pattern) (c s e w : ℕ) → c < 9 → s < 2 ^ 26 → e < 2 ^ 26 → p .count < length entry → w ≡ e * 2 ^ 30 + s * 2 ^ 4 + c
     → Put entry (set entry (p .count) w) p (sliderNote c s e) (record { mask = bitOr (p .mask) (1 * 2 ^ c % 65536); last = c; count = p .count + 1 })
 unfolding pattern put
 written entry p c s e w hc hs he room is =

@@ -10,15 +10,15 @@ use Rattle.mania.specs.declared.Note.{Note}
 use Rattle.mania.specs.declared.SliderNote.{SliderNote}
 use Rattle.mania.specs.PathObject.{noteOf}
 use Rattle.mania.specs.Pattern.{put}
-use Rattle.pattern.specs.Answers.{pattern}
+use Rattle.pattern.specs.Answers.{columnOf, pattern}
 use Rattle.pattern.specs.declared.Pattern as Lent
 
 abbrev pub sliderNote : ℕ → ℕ → ℕ → SliderNote
 sliderNote c start end = record { column = c; start = start; end = end }
 
--- the note of a word: 4 bits of column, 26 of start, 26 of end; every word has one
+-- the note of a word: from the lowest bit on, 4 bits of column, 26 of start, 26 of end; every word has one
 unfoldable pub ofWord : ℕ → SliderNote
-ofWord w = sliderNote (w / 2 ^ 52 % 2 ^ 4) (w / 2 ^ 26 % 2 ^ 26) (w % 2 ^ 26)
+ofWord w = sliderNote (columnOf w) (w / 2 ^ 4 % 2 ^ 26) (w / 2 ^ 30 % 2 ^ 26)
 
 -- the same as a note of the chart
 unfoldable pub noteOfWord : ℕ → Note

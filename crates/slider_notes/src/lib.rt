@@ -30,12 +30,12 @@ pub enum Reached {
 
 // ---- notes and columns
 
-// A note as a word: 4 bits of column, 26 of start, 26 of end.
+// A note as a word: from the lowest bit on, 4 bits of column, 26 of start, 26 of end.
 pub fn word(column: u8, start: u32, end: u32) -> u64
     requires { ⌜ (column < 9) × (start < 2 ^ 26) × (end < 2 ^ 26) ⌝ }
-    ensures { λ r. ⌜ r ≡ column * 2 ^ 52 + start * 2 ^ 26 + end ⌝ }
+    ensures { λ r. ⌜ r ≡ end * 2 ^ 30 + start * 2 ^ 4 + column ⌝ }
 {
-    (column as u64) * 4503599627370496 + (start as u64) * 67108864 + (end as u64)
+    (end as u64) * 1073741824 + (start as u64) * 16 + (column as u64)
 }
 
 // Writes one note more.
@@ -386,28 +386,21 @@ pub fn add_besides(
 pub fn end_of(w: u64) -> u32
     ensures { λ r. ⌜ r ≡ ofWord w .end ⌝ }
 {
-    (w % 67108864) as u32
-}
-
-// The column of a word's note.
-pub fn column_of(w: u64) -> u8
-    ensures { λ r. ⌜ r ≡ ofWord w .column ⌝ }
-{
-    (w / 4503599627370496 % 16) as u8
+    (w / 1073741824 % 67108864) as u32
 }
 
 // The start of a word's note.
 fn start_of(w: u64) -> u32
     ensures { λ r. ⌜ r ≡ ofWord w .start ⌝ }
 {
-    (w / 67108864 % 67108864) as u32
+    (w / 16 % 67108864) as u32
 }
 
 // A word's note: a circle where its two times are equal.
 pub fn note_of(w: u64) -> Note
     ensures { λ r. ⌜ r ≡ noteOfWord w ⌝ }
 {
-    let column = column_of(w);
+    let column = pattern::column_of(w);
     let start = start_of(w);
     let end = end_of(w);
     let from = start as f64;
@@ -454,7 +447,7 @@ fn put_word(dst: &mut [u64], p: Pattern, w: u64) -> Pattern
 {
     let mask = p.mask;
     let count = p.count;
-    let column = column_of(w);
+    let column = pattern::column_of(w);
     dst[count] = w;
     Pattern {
         mask: mask | (1 << column),

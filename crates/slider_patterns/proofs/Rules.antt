@@ -15,7 +15,7 @@ use Rattle.mania.specs.declared.SliderNote.{SliderNote}
 use Rattle.mania.specs.declared.PathObjectPatternGenerator.{PathObjectPatternGenerator}
 use Rattle.mania.specs.declared.Next.the-variants.{Draw}
 use Rattle.mania.specs.Steps.{double}
-use Rattle.mania.specs.Sound.{hasFlag}
+use Rattle.model.specs.Sound.{hasFlag}
 use Rattle.mania.specs.Pattern.{Pattern, empty, put}
 use Rattle.mania.specs.PatternType.{contains}
 use Rattle.mania.specs.PatternGenerator.{randomStart, getColumn, getRandomColumn, getRandomNoteCount, noteCount, findAvailableColumn}

@@ -6,7 +6,7 @@ use Rattle.rules.specs.Rule.{give, _>>=_}
 use Rattle.rules.specs.Refusal.{ObjectRule}
 use Rattle.mania.specs.declared.SliderNote.{SliderNote}
 use Rattle.mania.specs.declared.PathObjectPatternGenerator.{PathObjectPatternGenerator}
-use Rattle.mania.specs.Sound.{whistle, finish, clap, hasFlag}
+use Rattle.model.specs.Sound.{whistle, finish, clap, hasFlag}
 use Rattle.mania.specs.Pattern.{Pattern, empty}
 use Rattle.mania.specs.PatternGenerator.{randomStart}
 use Rattle.mania.specs.PathObject.{anyColumn, addHolds, besideCount, addBesides}

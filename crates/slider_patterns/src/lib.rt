@@ -18,6 +18,7 @@ ghost use Rattle.slider_notes.specs.Words.{ofWord};
 ghost use Rattle.slider_notes.specs.Answers.{Places};
 ghost use Rattle.slider_patterns.specs.Parts.{Fits, moreHolds, holdsFrom, besidesFrom, circlesFrom};
 use mania::PathObjectPatternGenerator;
+use model::sound;
 use pattern::Number;
 use pattern::Pattern;
 use pattern::Placed;
@@ -300,7 +301,7 @@ fn besides_from(
     requires { ⌜ Fits g (length (now words)) × (hold < 9) × (c < g .columns) × (p .count ≤ 1) × (g .spans ≤ 340) ⌝ }
     ensures { λ r. ⌜ Places (now (words .exit)) (on (besidesFrom g hold c (pattern ofWord (now (words .entry)) p)) d) 2050 r ⌝ }
 {
-    let bare = !pattern::has_flag(g.head, pattern::WHISTLE | pattern::FINISH | pattern::CLAP);
+    let bare = !sound::has_flag(g.head, sound::WHISTLE | sound::FINISH | sound::CLAP);
     match beside_count(d, g) {
         Number::Given(n, next) => {
             let k = least(n as u32, (g.columns - 1) as u32);

@@ -5,7 +5,7 @@ use native.Mathlib.Omega.{arith}
 use mathlib.Core.List.{map}
 use lib.Ieee.{nan}
 use lib.ListN.{getD}
-use Rattle.mania.specs.Steps.{least}
+use Rattle.floats.specs.Least.{least}
 use Rattle.mania.specs.PathObject.{Chances, caps, percent, capped}
 use Rattle.pattern.specs.Laws.Tables.{field-at}
 use Rattle.slider_times.specs.Chances.{capsOf}

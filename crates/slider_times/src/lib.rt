@@ -13,6 +13,7 @@ use mania::PrevValues;
 use model::Distance;
 use model::NodeSound;
 use model::Object;
+use model::sound;
 
 // The chances of two, three and four notes.
 pub struct Chance {
@@ -49,9 +50,9 @@ pub fn capped(columns: u8, c: Chance) -> Chance
 {
     let k = caps(columns as usize);
     Chance {
-        p2: pattern::min(c.p2, k.p2),
-        p3: pattern::min(c.p3, k.p3),
-        p4: pattern::min(c.p4, k.p4),
+        p2: floats::min(c.p2, k.p2),
+        p3: floats::min(c.p3, k.p3),
+        p4: floats::min(c.p4, k.p4),
     }
 }
 
@@ -131,8 +132,8 @@ pub fn can_generate_two_notes(g: PathObjectPatternGenerator) -> bool
     ensures { λ r. ⌜ r ≡ Path.twoNotes g ⌝ }
 {
     let low = pattern::has_type(g.flags, pattern::LOW_PROBABILITY);
-    let own = pattern::has_flag(g.sound, pattern::CLAP | pattern::FINISH);
-    let head = pattern::has_flag(g.head, pattern::CLAP | pattern::FINISH);
+    let own = sound::has_flag(g.sound, sound::CLAP | sound::FINISH);
+    let head = sound::has_flag(g.head, sound::CLAP | sound::FINISH);
     !low & (own | head)
 }
 
@@ -144,7 +145,7 @@ pub fn adjusted_beat(velocity: f64, beat: f64) -> f64
 {
     let as_beat = -100.0 / velocity;
     if as_beat < 0.0 {
-        let x = pattern::clamp_f32(10.0, 10000.0, floats::narrow(-as_beat));
+        let x = floats::clamp_f32(10.0, 10000.0, floats::narrow(-as_beat));
         beat * (std::num::f32_to_f64_with_nan(x) / 100.0)
     } else {
         beat * 1.0

@@ -13,7 +13,8 @@ use borrow.Author.Tests.{ltb-false}
 use Rattle.random.specs.Play.{Answer, found, refused, on}
 use Rattle.random.specs.declared.Draws.{Draws}
 use Rattle.model.specs.declared.Object.{Object}
-use Rattle.model.specs.Each.{Each}
+use Rattle.rules.specs.Each.{Each}
+use Rattle.record.specs.Layout.{longest}
 use Rattle.record.specs.Record.{songOf}
 use Rattle.record.specs.Refusal.{entries}
 use Rattle.record.specs.Object.{readObject, objectEnd, objects}
@@ -72,7 +73,7 @@ pub record At (bytes part entry chart : List ℕ) (g : Song) (start count : ℕ)
   pub room : 8 + 17 * w .notes ≤ length entry
   pub range : Each InRange (objects part here (count - i))
   pub sound : Sound (g .columns) w
-  pub near : here ≤ 7 + 214 * i
+  pub near : here ≤ 7 + longest * i
 
 before-none : (a : Answer Stop (List (List Note))) → before [] a ≡ a
 unfolding before
@@ -140,7 +141,7 @@ module _ (bytes part entry : List ℕ) (g : Song) (start count : ℕ) (d : Draws
           ∙ ap (λ (x : ℕ). refused (stop i x) e) (sym k)
 
       pub at-next : (exit : List ℕ) (x : Walk) (next : ℕ) (e : Draws) → length chart ≡ length entry → Next chart exit g c w o rest x e
-          → next ≡ objectEnd part here → next ≤ here + 214 → At bytes part entry exit g start count d x next e (i + 1)
+          → next ≡ objectEnd part here → next ≤ here + longest → At bytes part entry exit g start count d x next e (i + 1)
       unfolding walkOf afterObject
       at-next exit x next e z k at far =
           let ns = k .made .notes in

@@ -3,7 +3,7 @@ ghost use mathlib.Core.Path.{_≡_};
 ghost use Prim.Native.Nat.{ℕ, _+_, _^_, _≤_, _<_};
 ghost use mathlib.Core.List.{List};
 ghost use lib.ListN.{length};
-ghost use Rattle.model.specs.Each.{Each};
+ghost use Rattle.rules.specs.Each.{Each};
 ghost use Rattle.record.specs.Object.{objects};
 ghost use Rattle.mania.specs.declared.Facts.{Facts};
 ghost use Rattle.mania.specs.Convert as Convert;

@@ -12,6 +12,7 @@ use lib.Dec.{leb}
 use lib.ListN.{length, getD, take, drop, set, length-append, length-drop}
 use lib.Seq.{take-at, take-add, drop-at, drop-drop, getD-drop, length-take-le}
 use borrow.Author.Tests.{le-leb, lt-leb}
+use Rattle.rules.specs.Each.{Each}
 use Rattle.chart.specs.declared.Note.{Note}
 use Rattle.chart.specs.Bytes.{Bytes, be, num, splice}
 use Rattle.chart.specs.Chart.{noteBytes, body, header, encode, noteOf, notesOf, Holds}
@@ -144,24 +145,17 @@ fit-note s h =
     record { column = omega (arith, h 0); start = num-fits 8 (drop 1 s) (bytes-drop 1 s h); duration = num-fits 8 (drop 9 s) (bytes-drop 9 s h) }
 
 -- each of the notes fits
-unfoldable pub Fits : List Note → Type 0
-Fits [] = Unit {0}
-Fits (n ∷ ns) = Fit n × Fits ns
+abbrev pub Fits : List Note → Type 0
+Fits ns = Each Fit ns
 
 pub fits-notes : (k : ℕ) (s : List ℕ) → Bytes s → Fits (notesOf k s)
-unfolding Fits notesOf
+unfolding notesOf
 fits-notes zero s h = tt
 fits-notes (suc k) s h = (fit-note s h, fits-notes k (drop 17 s) (bytes-drop 17 s h))
 
-pub fits-at : (ns : List Note) (i : ℕ) (d : Note) → Fits ns → i < length ns → Fit (getD ns i d)
-unfolding Fits
-fits-at [] i d f l = absurd (omega arith)
-fits-at (n ∷ ns) zero d f l = f .0
-fits-at (n ∷ ns) (suc i) d f l = fits-at ns i d (f .1) (omega arith)
-
 -- notes that were stored are read back
 pub notes-back : (ns : List Note) (r : List ℕ) → Fits ns → notesOf (length ns) (body ns ++ r) ≡ ns
-unfolding Fits notesOf body
+unfolding notesOf body
 notes-back [] r f = refl
 notes-back (n ∷ ns) r f =
     rw (append-assoc (noteBytes n) (body ns) r)

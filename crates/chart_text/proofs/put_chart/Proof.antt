@@ -6,7 +6,8 @@ use native.Mathlib.Nat.{zero-add}
 use lib.ListN.{length}
 use Rattle.chart.specs.Chart.{meaning}
 use Rattle.chart.specs.Laws.Bytes.{splice-none}
-use Rattle.chart_text.specs.Laws.{wrote-first, wrote-next, read-text, refused-text}
+use Rattle.text.specs.Laws.{wrote-first, wrote-next}
+use Rattle.chart_text.specs.Laws.{read-text, refused-text}
 use borrow.Author.Needs.{needs}
 use Rattle.chart_text.proofs.put_chart.Statement.{statement}
 use Rattle.chart_text.proofs.put_chart.Tie as tie

@@ -8,7 +8,8 @@ use lib.ListN.{length, drop}
 use Rattle.chart.specs.Chart.{noteOf, notesOf}
 use Rattle.chart_text.specs.Text.{noteLine, noteLines}
 use Rattle.chart.specs.Laws.Bytes.{splice-none}
-use Rattle.chart_text.specs.Laws.{Wrote, wrote-first, wrote-next, lines-none, lines-more}
+use Rattle.text.specs.Laws.{Wrote, wrote-first, wrote-next}
+use Rattle.chart_text.specs.Laws.{lines-none, lines-more}
 use Rattle.chart_text.proofs.put_note_lines.Statement.{statement}
 use Rattle.chart_text.proofs.put_note_lines.Tie as tie
 

@@ -12,7 +12,7 @@ use Rattle.chart.specs.Chart.{header, notesOf}
 use Rattle.chart.specs.Order.{arranged}
 use Rattle.chart.specs.Laws.Bytes.{drop-splice}
 use Rattle.chart.specs.Laws.Notes.{encode-put, length-header, length-notesOf}
-use Rattle.chart.specs.Laws.Arranged.{length-arranged}
+use Rattle.chart.specs.Laws.Order.{length-arranged}
 use borrow.Author.Needs.{needs}
 use Rattle.chart_writer.proofs.finish.Statement.{statement}
 use Rattle.chart_writer.proofs.finish.Tie as tie

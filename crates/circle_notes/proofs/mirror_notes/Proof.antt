@@ -11,7 +11,8 @@ use Rattle.random.specs.Laws.On.{found-bind, refused-bind}
 use Rattle.mania.specs.declared.Note.{Note}
 use Rattle.mania.specs.declared.HitObjectPatternGenerator.{HitObjectPatternGenerator}
 use Rattle.mania.specs.declared.MirrorChances.{MirrorChances}
-use Rattle.mania.specs.Steps.{double, clamped}
+use Rattle.floats.specs.Least.{clamped}
+use Rattle.mania.specs.Steps.{double}
 use Rattle.mania.specs.Pattern.{Pattern}
 use Rattle.mania.specs.PatternGenerator.{getRandomNoteCount}
 use Rattle.mania.specs.HitObject.{mirroredChances, atCentre, mirrorNotes}

@@ -7,7 +7,7 @@ use mathlib.Core.List.{List, []}
 use lib.Dec.{lit≤}
 use lib.ListN.{length, take, drop}
 use Rattle.bits.specs.Laws.Fields.{rest-part}
-use Rattle.model.specs.Each.{Each}
+use Rattle.rules.specs.Each.{Each}
 use Rattle.record.specs.Refusal.{entries}
 use Rattle.record.specs.Object.{objects}
 use Rattle.record.specs.Record.{songOf}

@@ -21,11 +21,14 @@ abbrev μ-loop : tie.MeasureT-loop
 loop-holds : tie.Need-loop-holds Inv-loop μ-loop
 loop-holds c = (omega arith, refl)
 
-mul-turned : tie.Need-mul-turned Inv-loop μ-loop
-mul-turned c = omega arith
+mul-column-of : tie.Need-mul-column-of Inv-loop μ-loop
+mul-column-of c = omega arith
 
-shared-slice-read-turned : tie.Need-shared-slice-read-turned Inv-loop μ-loop
-shared-slice-read-turned c = omega arith
+shared-slice-read-column-of : tie.Need-shared-slice-read-column-of Inv-loop μ-loop
+shared-slice-read-column-of c = omega arith
+
+column-of-requires : tie.Need-column-of-requires Inv-loop μ-loop
+column-of-requires c κs = tt
 
 turned-requires : tie.Need-turned-requires Inv-loop μ-loop
 turned-requires c κs = omega arith
@@ -38,8 +41,9 @@ loop-less c = omega arith
 
 loop-again : tie.Need-loop-again Inv-loop μ-loop
 loop-again c =
-    let l = c .before .before .before .loop in
-    (omega arith, sym (after-more _ _ _ _ _ (c .before .before .loop-test .taken) (omega arith) _ _ (c .turned .ensures)) ∙ l .inv .1)
+    let l = c .before .before .before .before .loop in
+    let turned-is = rw (c .before .column-of .ensures) at (c .turned .ensures) in
+    (omega arith, sym (after-more _ _ _ _ _ (c .before .before .before .loop-test .taken) (omega arith) _ _ turned-is) ∙ l .inv .1)
 
 returns : tie.Need-returns Inv-loop μ-loop
 returns c = sym (sym (c .before .loop .inv .1) ∙ after-end _ _ _ _ _ (c .loop-test .left))
@@ -51,8 +55,9 @@ stair-after-spec =
     Inv-loop
     μ-loop
     loop-holds
-    mul-turned
-    shared-slice-read-turned
+    mul-column-of
+    shared-slice-read-column-of
+    column-of-requires
     turned-requires
     add-i
     loop-less

@@ -1,7 +1,7 @@
 -- `hit_object_type::capped` meets its contract. antt computes that each literal of the tables is the float nearest to the rule's hundredths. Assumes nothing.
 use mathlib.Core.Path.{ap, _∙_}
 use lib.Ieee.{round, ofBits}
-use Rattle.mania.specs.Steps.{least}
+use Rattle.floats.specs.Least.{least}
 use Rattle.mania.specs.declared.CircleChances.{CircleChances}
 use Rattle.mania.specs.HitObject.{caps, percent, capped}
 use Rattle.pattern.specs.Laws.Tables.{field-at}

@@ -21,7 +21,8 @@ use Rattle.floats.specs.declared.Way.the-variants.{Floor, Even}
 use Rattle.mania.specs.declared.Facts.{Facts}
 use Rattle.model.specs.declared.Distance.{Distance}
 use Rattle.model.specs.declared.Object.{Object}
-use Rattle.mania.specs.Steps.{single, double, double#, clamped}
+use Rattle.floats.specs.Least.{clamped}
+use Rattle.mania.specs.Steps.{single, double, double#}
 use Rattle.mania.specs.PathObject.{adjustedBeat, distanceOf, startTime, endTime}
 
 pub whole-upto : (f : Format) (m n : ℕ) → m ≤ 2 ^ prec f → m ≤ n → UpTo n (round f false m 1)
@@ -33,6 +34,15 @@ whole-upto f m n h k =
 pick : (n : ℕ) (b : Bool) (x y : Float) → UpTo n x → UpTo n y → UpTo n (if b then x else y)
 pick n true x y h k = h
 pick n false x y h k = k
+
+upto-clamped : (n : ℕ) (low high x : Float) → UpTo n low → UpTo n high → UpTo n x → UpTo n (clamped low high x)
+unfolding clamped
+upto-clamped n low high x h k l = go (lt x low) (lt high x)
+  where
+    go : (a b : Bool) → UpTo n (cond a low (cond b high x))
+    go true b = h
+    go false true = k
+    go false false = l
 
 -- ---- the adjusted beat length is at most 6,000,000
 
@@ -88,11 +98,7 @@ module _ (velocity beat : Float) (h : AtLeast 10 velocity) (k : UpTo 60000 beat)
       (round-at-most binary32 (num (neg asBeat)) (den (neg asBeat)) 10000 (den-pos (neg asBeat)) (lit≤ tt) (le-trans (back .high) (mul-le-mul-right (den (neg asBeat)) (lit≤ tt))))
 
   clamp : UpTo 10000 (clamped (single 10 1) (single 10000 1) (narrowed (neg asBeat)))
-  unfolding clamped
-  clamp =
-      let z = narrowed (neg asBeat) in
-      pick 10000 (lt z (single 10 1)) _ _ (whole-upto binary32 10 10000 (lit≤ tt) (lit≤ tt))
-      (pick 10000 (lt (single 10000 1) z) _ _ (whole-upto binary32 10000 10000 (lit≤ tt) (lit≤ tt)) narrow)
+  clamp = upto-clamped 10000 _ _ _ (whole-upto binary32 10 10000 (lit≤ tt) (lit≤ tt)) (whole-upto binary32 10000 10000 (lit≤ tt) (lit≤ tt)) narrow
 
   part : UpTo 100 (div binary64 (clamped (single 10 1) (single 10000 1) (narrowed (neg asBeat))) (double 100 1))
   part =

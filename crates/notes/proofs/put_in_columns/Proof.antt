@@ -19,14 +19,14 @@ pattern-of-requires c κs = tt
 loop-holds : tie.Need-loop-holds Inv-loop μ-loop
 loop-holds c = none-yet _ _ _ _ _ (omega arith)
 
-mul-t10 : tie.Need-mul-t10 Inv-loop μ-loop
-mul-t10 c = omega arith
+mul-column-of : tie.Need-mul-column-of Inv-loop μ-loop
+mul-column-of c = omega arith
 
-shared-slice-read-t12 : tie.Need-shared-slice-read-t12 Inv-loop μ-loop
-shared-slice-read-t12 c = omega arith
+shared-slice-read-column-of : tie.Need-shared-slice-read-column-of Inv-loop μ-loop
+shared-slice-read-column-of c = omega arith
 
-cast-t14 : tie.Need-cast-t14 Inv-loop μ-loop
-cast-t14 c = omega arith
+column-of-requires : tie.Need-column-of-requires Inv-loop μ-loop
+column-of-requires c κs = tt
 
 pinned-requires : tie.Need-pinned-requires Inv-loop μ-loop
 pinned-requires c κs = omega arith
@@ -53,8 +53,9 @@ loop-again : tie.Need-loop-again Inv-loop μ-loop
 loop-again c =
     let put = c .before .before in
     let row = put .before .before in
-    let loop = row .before .before .before .before .loop in
-    put-next _ _ _ _ _ _ _ (loop .inv) (omega arith) (omega arith) (omega arith) (rw (row .before .pinned .ensures, row .pinned2 .ensures)) (put .put-note .ensures)
+    let word = row .before .before in
+    let loop = word .before .before .before .loop in
+    put-next _ _ _ _ _ _ _ (loop .inv) (omega arith) (omega arith) (omega arith) (rw (word .column-of .ensures, row .before .pinned .ensures, row .pinned2 .ensures)) (put .put-note .ensures)
 
 same-length : tie.Need-same-length Inv-loop μ-loop
 same-length c = omega arith
@@ -73,9 +74,9 @@ put-in-columns-spec =
     μ-loop
     pattern-of-requires
     loop-holds
-    mul-t10
-    shared-slice-read-t12
-    cast-t14
+    mul-column-of
+    shared-slice-read-column-of
+    column-of-requires
     pinned-requires
     pinned-requires-2
     mul-put-note

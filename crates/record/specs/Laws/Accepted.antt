@@ -8,6 +8,7 @@ use borrow.Author.Tests.{ltb-false, eqb-true, not-false}
 use Rattle.bits.specs.Field.{bits, short}
 use Rattle.model.specs.Song.{Song}
 use Rattle.record.specs.declared.section.Section.the-variants.{Breaks, TimingPoints, DifficultyPoints, EffectPoints}
+use Rattle.record.specs.Layout as At
 use Rattle.record.specs.Refusal.{entriesRefusal}
 use Rattle.record.specs.Header.{settingRefusal, multiplierRefusal, headerRefusal, countsOf}
 use Rattle.record.specs.Section.{sectionRefusal}
@@ -40,16 +41,16 @@ refused-number s n e = refused-by (recordRefusal s) n (songOf s) e
 pub record HeaderParts (s : List ℕ) : Type 0 where
   pub version : bits s 0 4 ≡ 1
   pub keys : bits s 4 4 ≤ 9
-  pub hp : settingRefusal s 8 ≡ 0
-  pub cs : settingRefusal s 40 ≡ 0
-  pub od : settingRefusal s 72 ≡ 0
-  pub ar : settingRefusal s 104 ≡ 0
+  pub hp : settingRefusal s At.hp ≡ 0
+  pub cs : settingRefusal s At.cs ≡ 0
+  pub od : settingRefusal s At.od ≡ 0
+  pub ar : settingRefusal s At.ar ≡ 0
   pub multiplier : multiplierRefusal s ≡ 0
-  pub whole : 256 ≤ 8 * length s
+  pub whole : At.breaks ≤ 8 * length s
 
 pub record Parts (s : List ℕ) : Type 0 where
   pub header : headerRefusal s ≡ 0
-  pub breaks : sectionRefusal Breaks s 256 (countsOf s .breaks) ≡ 0
+  pub breaks : sectionRefusal Breaks s At.breaks (countsOf s .breaks) ≡ 0
   pub timing : sectionRefusal TimingPoints s (placesOf (countsOf s) .timing) (countsOf s .timing) ≡ 0
   pub difficulty : sectionRefusal DifficultyPoints s (placesOf (countsOf s) .difficulty) (countsOf s .difficulty) ≡ 0
   pub effect : sectionRefusal EffectPoints s (placesOf (countsOf s) .effect) (countsOf s .effect) ≡ 0
@@ -87,7 +88,7 @@ header-parts s h =
       od = i .0;
       ar = j .0;
       multiplier = k .0;
-      whole = ltb-false (8 * length s) 256 (gives-none _ 0 (k .1));
+      whole = ltb-false (8 * length s) At.breaks (gives-none _ 0 (k .1));
     }
 
 -- the first object's first six bits are there

@@ -13,6 +13,7 @@ use Rattle.record.specs.declared.section.Section.the-variants.{Breaks, T
 use Rattle.record.specs.declared.header.Counts.{Counts}
 use Rattle.record.specs.declared.Summary.{Summary}
 use Rattle.record.specs.declared.Checked.the-variants.{Refused, Accepted}
+use Rattle.record.specs.Layout as At
 use Rattle.record.specs.Refusal.{f64At, entriesRefusal}
 use Rattle.record.specs.Header.{countsOf, SmallCounts}
 use Rattle.record.specs.Section.{widthOf, entryRefusal, noTime, sectionRefusal, breaks, timingPoints, difficultyPoints, effectPoints}
@@ -76,7 +77,7 @@ pub record Known (s : List ℕ) (m : Summary) : Type 0 where
   pub small : SmallCounts (m .counts)
   pub near : NearPlaces (m .places)
   pub number : m .counts .objects ≡ length (songOf s .objects)
-  pub breaks : songOf s .breaks ≡ breaks s 256 (m .counts .breaks)
+  pub breaks : songOf s .breaks ≡ breaks s At.breaks (m .counts .breaks)
   pub timing : songOf s .timingPoints ≡ timingPoints s (m .places .timing) (m .counts .timing)
   pub difficulty : songOf s .difficultyPoints ≡ difficultyPoints s (m .places .difficulty) (m .counts .difficulty)
   pub effect : songOf s .effectPoints ≡ effectPoints s (m .places .effect) (m .counts .effect)

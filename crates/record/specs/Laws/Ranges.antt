@@ -17,9 +17,10 @@ use Rattle.model.specs.declared.TimingPoint.{TimingPoint}
 use Rattle.model.specs.declared.DifficultyPoint.{DifficultyPoint}
 use Rattle.model.specs.declared.EffectPoint.{EffectPoint}
 use Rattle.model.specs.Song.{Song}
-use Rattle.model.specs.Each.{Each}
+use Rattle.rules.specs.Each.{Each}
 use Rattle.record.specs.declared.section.Section.{Section}
 use Rattle.record.specs.declared.section.Section.the-variants.{Breaks, TimingPoints, DifficultyPoints, EffectPoints}
+use Rattle.record.specs.Layout as At
 use Rattle.record.specs.Refusal.{f32Refusal, f64Refusal, f32At, f64At, entriesRefusal, entries}
 use Rattle.record.specs.Header.{settingRefusal, multiplierRefusal, keysOf, settingsOf, countsOf}
 use Rattle.record.specs.Section.{entryEnd, timeRefusal, beatRefusal, velocityRefusal, risingRefusal, entryRefusal, noTime, sectionRefusal, readBreak, readTimingPoint, readDifficultyPoint, readEffectPoint, breaks, timingPoints, difficultyPoints, effectPoints}
@@ -51,9 +52,9 @@ module _ (s : List ℕ) where
   unfolding settingRefusal
   setting-field p h = field32 p 3 _ _ h
 
-  multiplier-field : multiplierRefusal s ≡ 0 → Bounded binary64 (round binary64 false 4 10) (round binary64 false 36 10) (f64At s 136)
+  multiplier-field : multiplierRefusal s ≡ 0 → Bounded binary64 (round binary64 false 4 10) (round binary64 false 36 10) (f64At s At.multiplier)
   unfolding multiplierRefusal
-  multiplier-field h = field64 136 3 _ _ h
+  multiplier-field h = field64 At.multiplier 3 _ _ h
 
   time-field : (p : ℕ) → timeRefusal s p ≡ 0 → FitTime (f64At s p)
   unfolding timeRefusal
@@ -68,15 +69,15 @@ module _ (s : List ℕ) where
   break-fit p before h =
       let a = then-none _ _ h in
       let b = then-none _ _ (a .1) in
-      record { start = time-field p (a .0); end = time-field (p + 64) (b .0); order = gives-none _ 4 (b .1) }
+      record { start = time-field p (a .0); end = time-field (p + At.second) (b .0); order = gives-none _ 4 (b .1) }
 
   timing-fit : (p : ℕ) (before : Float) → entryRefusal TimingPoints s p before ≡ 0 → FitTiming (readTimingPoint s p)
   unfolding entryRefusal readTimingPoint beatRefusal
-  timing-fit p before h = record { time = rising-field p before (then-none _ _ h .0) .0; beat = field64 (p + 64) 4 _ _ (then-none _ _ h .1) }
+  timing-fit p before h = record { time = rising-field p before (then-none _ _ h .0) .0; beat = field64 (p + At.second) 4 _ _ (then-none _ _ h .1) }
 
   difficulty-fit : (p : ℕ) (before : Float) → entryRefusal DifficultyPoints s p before ≡ 0 → FitDifficulty (readDifficultyPoint s p)
   unfolding entryRefusal readDifficultyPoint velocityRefusal
-  difficulty-fit p before h = record { time = rising-field p before (then-none _ _ h .0) .0; velocity = field64 (p + 64) 4 _ _ (then-none _ _ h .1) }
+  difficulty-fit p before h = record { time = rising-field p before (then-none _ _ h .0) .0; velocity = field64 (p + At.second) 4 _ _ (then-none _ _ h .1) }
 
   effect-fit : (p : ℕ) (before : Float) → entryRefusal EffectPoints s p before ≡ 0 → FitEffect (readEffectPoint s p)
   unfolding entryRefusal readEffectPoint
@@ -114,7 +115,7 @@ module _ (s : List ℕ) where
   unfolding sliderRefusal sliderAt
   slider-fit q h =
       let a = then-none _ _ h .1 in
-      (bits-lt s q 10, distance-fit (q + 11) (bits s (q + 10) 1) (then-none _ _ a .0), node-fit (nodeBit s q + 1) (bits s (nodeBit s q) 1))
+      (bits-lt s q 10, distance-fit (q + At.distance) (bits s (q + At.isGiven) 1) (then-none _ _ a .0), node-fit (nodeBit s q + 1) (bits s (nodeBit s q) 1))
 
   kind-fit : (q k : ℕ) → kindRefusal s q k ≡ 0 → FitKind (kindBy s q k)
   unfolding kindRefusal kindBy
@@ -131,11 +132,11 @@ module _ (s : List ℕ) where
       let d = then-none _ _ (b .1) in
       let e = then-none _ _ (d .1) in (
         record {
-          x = coordinate-field (p + 6) (a .0);
-          y = coordinate-field (p + 38) (b .0);
-          start = span-field (p + 70) (d .0);
+          x = coordinate-field (p + At.x) (a .0);
+          y = coordinate-field (p + At.y) (b .0);
+          start = span-field (p + At.start) (d .0);
           sound = bits-lt s (p + 2) 4;
-          kind = kind-fit (p + 134) (bits s p 2) (e .1);
+          kind = kind-fit (p + At.added) (bits s p 2) (e .1);
         },
         gives-none _ 5 (e .0),
       )
@@ -231,13 +232,13 @@ song-fits s h =
       keys = head .keys;
       settings =
           record {
-            hp = setting-field s 8 (head .hp);
-            cs = setting-field s 40 (head .cs);
-            od = setting-field s 72 (head .od);
-            ar = setting-field s 104 (head .ar);
+            hp = setting-field s At.hp (head .hp);
+            cs = setting-field s At.cs (head .cs);
+            od = setting-field s At.od (head .od);
+            ar = setting-field s At.ar (head .ar);
             multiplier = multiplier-field s (head .multiplier);
           };
-      breaks = each-of (entryRefusal Breaks s) (entryEnd Breaks) (f64At s) (readBreak s) FitBreak (break-fit s) 256 noTime (countsOf s .breaks) (h .breaks);
+      breaks = each-of (entryRefusal Breaks s) (entryEnd Breaks) (f64At s) (readBreak s) FitBreak (break-fit s) At.breaks noTime (countsOf s .breaks) (h .breaks);
       timing = each-of (entryRefusal TimingPoints s) (entryEnd TimingPoints) (f64At s) (readTimingPoint s) FitTiming (timing-fit s) (placesOf (countsOf s) .timing) noTime (countsOf s .timing) (h .timing);
       difficulty = each-of (entryRefusal DifficultyPoints s) (entryEnd DifficultyPoints) (f64At s) (readDifficultyPoint s) FitDifficulty (difficulty-fit s) (placesOf (countsOf s) .difficulty) noTime (countsOf s .difficulty) (h .difficulty);
       effect = each-of (entryRefusal EffectPoints s) (entryEnd EffectPoints) (f64At s) (readEffectPoint s) FitEffect (effect-fit s) (placesOf (countsOf s) .effect) noTime (countsOf s .effect) (h .effect);
@@ -246,7 +247,7 @@ song-fits s h =
       difficulty-rises = difficulty-up s h;
       effect-rises = effect-up s h;
       starts = no-fall s (placesOf (countsOf s) .objects) zeroStart (countsOf s .objects) (h .objects);
-      few-breaks = less _ _ 255 (length-entries (readBreak s) (entryEnd Breaks) 256 (countsOf s .breaks)) (n .breaks-le);
+      few-breaks = less _ _ 255 (length-entries (readBreak s) (entryEnd Breaks) At.breaks (countsOf s .breaks)) (n .breaks-le);
       few-timing = less _ _ 4095 (length-entries (readTimingPoint s) (entryEnd TimingPoints) (placesOf (countsOf s) .timing) (countsOf s .timing)) (n .timing-le);
       few-difficulty = less _ _ 4095 (length-entries (readDifficultyPoint s) (entryEnd DifficultyPoints) (placesOf (countsOf s) .difficulty) (countsOf s .difficulty)) (n .difficulty-le);
       few-effect = less _ _ 4095 (length-entries (readEffectPoint s) (entryEnd EffectPoints) (placesOf (countsOf s) .effect) (countsOf s .effect)) (n .effect-le);

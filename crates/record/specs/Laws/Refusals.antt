@@ -12,9 +12,11 @@ use borrow.Author.Tests.{ltb-true, ltb-false, le-ltb, eqb-true, not-false}
 use Rattle.bits.specs.Field.{bits, short}
 use Rattle.bits.specs.Laws.Fields.{bits-lt}
 use Rattle.model.specs.Song.{Song}
-use Rattle.model.specs.Each.{Each}
+use Rattle.rules.specs.Each.{Each}
+use Rattle.rules.specs.Laws.Each.{each-append}
 use Rattle.record.specs.declared.section.Section.{Section}
 use Rattle.record.specs.declared.section.Section.the-variants.{Breaks, TimingPoints, DifficultyPoints, EffectPoints}
+use Rattle.record.specs.Layout as At
 use Rattle.record.specs.Refusal.{_gives_, _then_, f32Refusal, f64Refusal, f64At, entriesRefusal}
 use Rattle.record.specs.Header.{settingRefusal, multiplierRefusal, headerRefusal, countsOf}
 use Rattle.record.specs.Section.{timeRefusal, beatRefusal, velocityRefusal, risingRefusal, entryRefusal, sectionRefusal}
@@ -116,25 +118,25 @@ module _ (s : List ℕ) where
 
   -- ---- the header
 
-  row-counts : Row (short s 256 gives 1) (plain 200 8 ∷ plain 208 12 ∷ plain 220 12 ∷ plain 232 12 ∷ plain 244 12 ∷ [])
+  row-counts : Row (short s At.breaks gives 1) (plain At.breakCount 8 ∷ plain At.timingCount 12 ∷ plain At.difficultyCount 12 ∷ plain At.effectCount 12 ∷ plain At.objectCount 12 ∷ [])
   row-counts =
-      row-more 200 8 256 _ (lit≤ tt) (row-more 208 12 256 _ (lit≤ tt) (row-more 220 12 256 _ (lit≤ tt) (row-more 232 12 256 _ (lit≤ tt) (row-plain 244 12 256 refl))))
+      row-more At.breakCount 8 At.breaks _ (lit≤ tt) (row-more At.timingCount 12 At.breaks _ (lit≤ tt) (row-more At.difficultyCount 12 At.breaks _ (lit≤ tt) (row-more At.effectCount 12 At.breaks _ (lit≤ tt) (row-plain At.objectCount 12 At.breaks refl))))
 
   row-header : Row (headerRefusal s) (headerFields s)
   unfolding headerRefusal headerFields settingRefusal multiplierRefusal
   row-header =
-      row-own 0 4 (not (eqb (bits s 0 4) 1) gives 2)
-      (row-own 4 4 (ltb 9 (bits s 4 4) gives 3)
-      (row-cat (row-f32 8 _ _ 4) (row-cat (row-f32 40 _ _ 4) (row-cat (row-f32 72 _ _ 4) (row-cat (row-f32 104 _ _ 4) (row-cat (row-f64 136 _ _ 4) row-counts))))))
+      row-own At.version 4 (not (eqb (bits s At.version 4) 1) gives 2)
+      (row-own At.keys 4 (ltb 9 (bits s At.keys 4) gives 3)
+      (row-cat (row-f32 At.hp _ _ 4) (row-cat (row-f32 At.cs _ _ 4) (row-cat (row-f32 At.od _ _ 4) (row-cat (row-f32 At.ar _ _ 4) (row-cat (row-f64 At.multiplier _ _ 4) row-counts))))))
 
   -- ---- breaks and points
 
   row-entry : (k : Section) (p : ℕ) (before : Float) → Row (entryRefusal k s p before) (entryFields k s p before)
   unfolding entryRefusal entryFields timeRefusal risingRefusal beatRefusal velocityRefusal
-  row-entry Breaks p before = row-cat (row-f64 p _ _ 5) (row-last (p + 64) _ _ 4 (lt (f64At s (p + 64)) (f64At s p)))
-  row-entry TimingPoints p before = row-cat (row-last p _ _ 4 (not (lt before (f64At s p)))) (row-f64 (p + 64) _ _ 5)
-  row-entry DifficultyPoints p before = row-cat (row-last p _ _ 4 (not (lt before (f64At s p)))) (row-f64 (p + 64) _ _ 5)
-  row-entry EffectPoints p before = row-cat (row-last p _ _ 4 (not (lt before (f64At s p)))) (row-plain (p + 64) 1 (p + 65) (omega arith))
+  row-entry Breaks p before = row-cat (row-f64 p _ _ 5) (row-last (p + At.second) _ _ 4 (lt (f64At s (p + At.second)) (f64At s p)))
+  row-entry TimingPoints p before = row-cat (row-last p _ _ 4 (not (lt before (f64At s p)))) (row-f64 (p + At.second) _ _ 5)
+  row-entry DifficultyPoints p before = row-cat (row-last p _ _ 4 (not (lt before (f64At s p)))) (row-f64 (p + At.second) _ _ 5)
+  row-entry EffectPoints p before = row-cat (row-last p _ _ 4 (not (lt before (f64At s p)))) (row-plain (p + At.second) 1 (p + At.effectEntry) (omega arith))
 
   -- ---- objects
 
@@ -153,8 +155,8 @@ module _ (s : List ℕ) where
   row-slider : (q : ℕ) → Row (sliderRefusal s q) (sliderFields s q)
   unfolding sliderRefusal sliderEnd
   row-slider q =
-      row-cat (row-more q 10 (q + 11) (plain (q + 10) 1 ∷ []) (omega arith) (row-plain (q + 10) 1 (q + 11) (omega arith)))
-      (row-cat (row-distance (q + 11) (bits s (q + 10) 1)) (row-node (nodeBit s q) (bits s (nodeBit s q) 1) (at-most (bits-lt s (nodeBit s q) 1))))
+      row-cat (row-more q 10 (q + At.distance) (plain (q + At.isGiven) 1 ∷ []) (omega arith) (row-plain (q + At.isGiven) 1 (q + At.distance) (omega arith)))
+      (row-cat (row-distance (q + At.distance) (bits s (q + At.isGiven) 1)) (row-node (nodeBit s q) (bits s (nodeBit s q) 1) (at-most (bits-lt s (nodeBit s q) 1))))
     where
       at-most : {b : ℕ} → b < 2 ^ 1 → b ≤ 1
       at-most h = omega arith
@@ -168,8 +170,8 @@ module _ (s : List ℕ) where
   row-object : (p : ℕ) (before : Float) → Row (objectRefusal s p before) (objectFields s p before)
   unfolding objectRefusal objectFields positionRefusal spanRefusal
   row-object p before =
-      row-cat (row-more p 2 (p + 6) (plain (p + 2) 4 ∷ []) (omega arith) (row-plain (p + 2) 4 (p + 6) (omega arith)))
-      (row-cat (row-f32 (p + 6) _ _ 6) (row-cat (row-f32 (p + 38) _ _ 6) (row-two (p + 70) _ _ 5 (lt (startAt s p) before) (row-kind (p + 134) (bits s p 2)))))
+      row-cat (row-more p 2 (p + At.x) (plain (p + At.sound) 4 ∷ []) (omega arith) (row-plain (p + At.sound) 4 (p + At.x) (omega arith)))
+      (row-cat (row-f32 (p + At.x) _ _ 6) (row-cat (row-f32 (p + At.y) _ _ 6) (row-two (p + At.start) _ _ 5 (lt (startAt s p) before) (row-kind (p + At.added) (bits s p 2)))))
 
   -- ---- lists
 
@@ -191,7 +193,7 @@ module _ (s : List ℕ) where
 
   listed : Row
       (headerRefusal s
-      then (sectionRefusal Breaks s 256 (countsOf s .breaks)
+      then (sectionRefusal Breaks s At.breaks (countsOf s .breaks)
       then (sectionRefusal TimingPoints s (placesOf (countsOf s) .timing) (countsOf s .timing)
       then (sectionRefusal DifficultyPoints s (placesOf (countsOf s) .difficulty) (countsOf s .difficulty)
       then (sectionRefusal EffectPoints s (placesOf (countsOf s) .effect) (countsOf s .effect)
@@ -336,10 +338,6 @@ unfolding _gives_
 gives-or true n = inr refl
 gives-or false n = inl refl
 
-each-append : (P : Field → Type 0) (fs gs : List Field) → Each P fs → Each P gs → Each P (fs ++ gs)
-each-append P [] gs h k = k
-each-append P (f ∷ fs) gs h k = (h .0, each-append P fs gs (h .1) k)
-
 each-entries : (P : Field → Type 0) (fields : ℕ → Float → List Field) (next : ℕ → ℕ) (key : ℕ → Float) → ((p : ℕ) (before : Float) → Each P (fields p before))
     → (p : ℕ) (before : Float) (n : ℕ) → Each P (entriesFields fields next key p before n)
 unfolding entriesFields
@@ -375,12 +373,12 @@ module _ (s : List ℕ) where
   unfolding kindFields
   kind-gives q zero = tt
   kind-gives q (suc zero) =
-      (inl refl, (inl refl, each-append (Gives 6) (distanceFields s (q + 11) (bits s (q + 10) 1)) _ (distance-gives (q + 11) (bits s (q + 10) 1)) (inl refl, node-gives (nodeBit s q + 1) (bits s (nodeBit s q) 1))))
+      (inl refl, (inl refl, each-append (Gives 6) (distanceFields s (q + At.distance) (bits s (q + At.isGiven) 1)) _ (distance-gives (q + At.distance) (bits s (q + At.isGiven) 1)) (inl refl, node-gives (nodeBit s q + 1) (bits s (nodeBit s q) 1))))
   kind-gives q (suc (suc k)) = (gives-or _ 6, tt)
 
   object-gives : (p : ℕ) (before : Float) → Each (Gives 6) (objectFields s p before)
   unfolding objectFields
-  object-gives p before = (inl refl, (inl refl, (gives-or _ 6, (gives-or _ 6, (gives-or _ 6, kind-gives (p + 134) (bits s p 2))))))
+  object-gives p before = (inl refl, (inl refl, (gives-or _ 6, (gives-or _ 6, (gives-or _ 6, kind-gives (p + At.added) (bits s p 2))))))
 
   pub objects-gives : (p n : ℕ) → Each (Gives 6) (objectsFields s p n)
   unfolding objectsFields

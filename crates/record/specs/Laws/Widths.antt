@@ -1,4 +1,4 @@
--- No entry is wider than 128 bits, and a field of few bits fits a wider number. Assumes nothing.
+-- No entry is wider than a break, and a field of few bits fits a wider number. Assumes nothing.
 use Prim.Native.Nat.{ℕ, _^_, _≤_, _<_}
 use mathlib.Core.List.{List}
 use native.Mathlib.Nat.{lt-of-lt-of-le}
@@ -8,9 +8,10 @@ use Rattle.bits.specs.Field.{bits}
 use Rattle.bits.specs.Laws.Fields.{bits-lt}
 use Rattle.record.specs.declared.section.Section.{Section}
 use Rattle.record.specs.declared.section.Section.the-variants.{Breaks, TimingPoints, DifficultyPoints, EffectPoints}
+use Rattle.record.specs.Layout as At
 use Rattle.record.specs.Section.{widthOf}
 
-pub width-le : (k : Section) → widthOf k ≤ 128
+pub width-le : (k : Section) → widthOf k ≤ At.entry
 width-le Breaks = lit≤ tt
 width-le TimingPoints = lit≤ tt
 width-le DifficultyPoints = lit≤ tt

@@ -3,13 +3,14 @@ use mathlib.Core.Path.{sym, _∙_}
 use Prim.Native.Nat.{_+_, _*_, _≤_}
 use native.Mathlib.Omega.{arith}
 use lib.Ieee.{round, size, span, climb, units, odd, ofBits, ofFields}
+use Rattle.record.specs.Layout as At
 use Rattle.record.specs.Object.{startAt, zeroStart}
 use Rattle.record_object.proofs.Scans.{Left, all-left, left-stop, left-next, left-none}
 use Rattle.record_object.proofs.scan_objects.Statement.{statement}
 use Rattle.record_object.proofs.scan_objects.Tie as tie
 
 abbrev Inv-loop : tie.InvT-loop
-Inv-loop s at count here₀ last₀ long₀ left₀ here last long left = (here + 214 * left ≤ at + 214 * count) × (long + left ≤ count) × Left s at count here last long left
+Inv-loop s at count here₀ last₀ long₀ left₀ here last long left = (here + At.longest * left ≤ at + At.longest * count) × (long + left ≤ count) × Left s at count here last long left
 
 abbrev μ-loop : tie.MeasureT-loop
 μ-loop s at count here₀ last₀ long₀ left₀ here last long left = left

@@ -4,6 +4,7 @@ use mathlib.Core.Path.{_≡_, refl, sym, _∙_}
 use Prim.Native.Nat.{_+_, _*_, _≤_}
 use native.Mathlib.Omega.{arith}
 use lib.Ieee.{neg, ofInt, round, size, span, climb, units, odd, ofBits, ofFields}
+use Rattle.record.specs.Layout as At
 use Rattle.record.specs.Refusal.{f64At, entriesRefusal}
 use Rattle.record.specs.Section.{widthOf, entryEnd, entryRefusal, sectionRefusal, noTime}
 use Rattle.record.specs.Laws.Widths.{width-le}
@@ -13,7 +14,7 @@ use Rattle.record.proofs.section.section_refusal.Tie as tie
 
 abbrev Inv-loop : tie.InvT-loop
 Inv-loop section s at count width here₀ before₀ left₀ here before left =
-    (here + 128 * left ≤ at + 128 * count) × (width ≤ 128) × (width ≡ widthOf section)
+    (here + At.entry * left ≤ at + At.entry * count) × (width ≤ At.entry) × (width ≡ widthOf section)
     × (sectionRefusal section s at count ≡ entriesRefusal (entryRefusal section s) (entryEnd section) (f64At s) here before left)
 
 abbrev μ-loop : tie.MeasureT-loop

@@ -7,6 +7,7 @@ use mathlib.Core.Bool.{false}
 use lib.Ieee.{Float, binary64, add, sub, round, size, span, climb, units, odd, ofBits, ofFields}
 use Rattle.model.specs.Totals.{breakTime}
 use Rattle.record.specs.declared.section.Section.the-variants.{Breaks}
+use Rattle.record.specs.Layout as At
 use Rattle.record.specs.Refusal.{entries, f64At}
 use Rattle.record.specs.Section.{breaks, readBreak, entryEnd}
 use Rattle.record.specs.Laws.Entries.{entries-cons}
@@ -14,7 +15,7 @@ use Rattle.record.proofs.section.total_break_time.Statement.{statement}
 use Rattle.record.proofs.section.total_break_time.Tie as tie
 
 abbrev Inv-loop : tie.InvT-loop
-Inv-loop s at count here₀ sum₀ left₀ here sum left = (here + 128 * left ≤ at + 128 * count) × (left ≤ count) × (breakTime (round binary64 false 0 1) (breaks s at count) ≡ breakTime sum (breaks s here left))
+Inv-loop s at count here₀ sum₀ left₀ here sum left = (here + At.entry * left ≤ at + At.entry * count) × (left ≤ count) × (breakTime (round binary64 false 0 1) (breaks s at count) ≡ breakTime sum (breaks s here left))
 
 abbrev μ-loop : tie.MeasureT-loop
 μ-loop s at count here₀ sum₀ left₀ here sum left = left
@@ -42,7 +43,7 @@ loop-less : tie.Need-loop-less Inv-loop μ-loop
 loop-less c = omega arith
 
 break-next : (s : List ℕ) (p n : ℕ) (sum : Float) → 0 < n
-    → breakTime sum (breaks s p n) ≡ breakTime (add binary64 sum (sub binary64 (f64At s (p + 64)) (f64At s p))) (breaks s (p + 128) (n - 1))
+    → breakTime sum (breaks s p n) ≡ breakTime (add binary64 sum (sub binary64 (f64At s (p + At.second)) (f64At s p))) (breaks s (p + At.entry) (n - 1))
 unfolding breaks breakTime readBreak
 break-next s p n sum h = rw (entries-cons (readBreak s) (entryEnd Breaks) p n h)
 
