@@ -4,7 +4,7 @@ use Prim.Native.Nat.{ℕ, zero, suc, _+_, _-_, _^_, _≤_}
 use native.Mathlib.Nat.{sub-self, add-sub-of-le}
 use native.Mathlib.Omega.{arith}
 use lib.Bits.{bitOr}
-use Rattle.settings.specs.Counts.{columnsAt}
+use Rattle.mania.specs.Convert.{columnsAt}
 
 unfoldable pub gathered : ℕ → ℕ → ℕ → ℕ → ℕ → ℕ → ℕ
 gathered long objects csLow csHigh low zero = 0

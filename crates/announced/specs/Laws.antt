@@ -42,9 +42,8 @@ use Rattle.mania.specs.Laws.Tests.{two, three}
 use Rattle.mania.specs.Laws.SliderTimes.{end-mono}
 use Rattle.mania.proofs.Masks.{bit, or-bit, own-bit}
 use Rattle.mania.proofs.Frees.{other-bit}
-use Rattle.mania.specs.Convert.{columnsOf}
-use Rattle.settings.specs.Counts.{columnsAt, columnsBy, keysOr}
-use Rattle.settings.specs.Laws.{columns-of, columns-between}
+use Rattle.mania.specs.Convert.{columnsAt, columnsBy, keysOr, targetColumns, columnsOf}
+use Rattle.settings.specs.Laws.{columns-between}
 use Rattle.announced.specs.declared.SettingRange.{SettingRange}
 use Rattle.announced.specs.declared.DistanceRange.{DistanceRange}
 use Rattle.announced.specs.declared.Slider.{Slider}
@@ -258,8 +257,8 @@ checked od cs long objects e =
 -- without a key choice the columns are those of the counts
 columns-by-counts : {long objects : ℕ} (song : Song) → song .keys ≡ 0 → length (song .objects) ≡ objects → slidersAndSpinners (song .objects) ≡ long
     → columnsBy (song .settings) long objects ≡ columnsOf song
-unfolding keysOr
-columns-by-counts song e p q = rw (← p, ← q) (subst (λ (k : ℕ). keysOr k (columnsBy (song .settings) (slidersAndSpinners (song .objects)) (length (song .objects))) ≡ columnsOf song) e (columns-of song))
+unfolding columnsOf targetColumns keysOr
+columns-by-counts song e p q = rw (← p, ← q, e)
 
 abbrev at-zero : Kind → Object
 at-zero kind = record { position = record { x = single 0 1; y = single 0 1 }; start = double 0 1; sound = 0; kind = kind }

@@ -6,7 +6,6 @@ use Rattle.floats.specs.declared.Way.the-variants.{Even}
 use Rattle.model.specs.declared.NodeSound.the-variants.{Missing}
 use Rattle.mania.specs.Steps.{single, double}
 use Rattle.mania.proofs.Computing.{computing}
-use Rattle.settings.specs.Counts.{columnsAt}
 use Rattle.announced.specs.declared.SettingRange.{SettingRange}
 use Rattle.announced.specs.declared.Slider.{Slider}
 use Rattle.announced.specs.Announced.{columnsRefusal, settingFits, factsOf, objectOf, endAt, endsRefusal, nothing, restRefusal, distanceFits}
@@ -25,17 +24,17 @@ rounds-to-6 = refl
 
 -- 2 of 10 objects are sliders or spinners, cs 4: 6 or 7 columns
 six-or-seven : gathered 2 10 4 4 5 2 ≡ 0b11000000
-unfolding computing gathered columnsAt
+unfolding computing gathered
 six-or-seven = refl
 
 -- 5 of 10, od 4: 5 columns with cs 4, and 6 with cs 5
 five-or-six : gathered 5 10 4 5 4 1 ≡ 0b1100000
-unfolding computing gathered columnsAt
+unfolding computing gathered
 five-or-six = refl
 
 -- no objects, od from 3 to 6: what lies between the ends counts too
 all-between : gathered 0 0 4 4 3 4 ≡ 0b11110000
-unfolding computing gathered columnsAt
+unfolding computing gathered
 all-between = refl
 
 -- 5.55 to 5.45 is no range, and 10.05 is out of bounds; the counts come after

@@ -11,12 +11,11 @@ use Rattle.random.specs.declared.Draws.{Draws}
 use Rattle.mania.specs.declared.Note.{Note}
 use Rattle.mania.specs.declared.HitObjectPatternGenerator.{HitObjectPatternGenerator}
 use Rattle.mania.specs.Pattern.{Pattern, free, put}
-use Rattle.mania.specs.HitObject.{addNote}
+use Rattle.mania.specs.HitObject.{addNote, addOne}
 use Rattle.pattern.specs.Laws.Adds.{add-on, add-off}
 use Rattle.pattern.specs.Laws.Words.{one-more}
 use Rattle.pattern.specs.Answers.{pattern}
 use Rattle.circle_notes.specs.Answers.{circleAt}
-use Rattle.circle_notes.specs.Parts.{addOne}
 use Rattle.pattern.specs.declared.Pattern as Lent
 
 module _ (g : HitObjectPatternGenerator) (c : ℕ) (d : Draws) where

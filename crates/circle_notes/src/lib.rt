@@ -3,13 +3,13 @@ ghost use mathlib.Core.Path.{_≡_};
 ghost use Prim.Native.Nat.{_+_, _-_, _≤_, _<_, min};
 ghost use lib.ListN.{length};
 ghost use lib.Count.{ones};
+ghost use Rattle.rules.specs.Rule.{if_then_else_};
 ghost use Rattle.random.specs.Play.{on};
 ghost use Rattle.mania.specs.Pattern.{empty};
 ghost use Rattle.mania.specs.PatternGenerator.{randomStart};
 ghost use Rattle.mania.specs.HitObject as Rule;
 ghost use Rattle.pattern.specs.Answers.{pattern, placed, AtMost};
 ghost use Rattle.circle_notes.specs.Answers.{circleAt};
-ghost use Rattle.circle_notes.specs.Parts.{goal, addOne, addPair, addCentre, mirrorEnd, mirrorFrom};
 use mania::CircleChances;
 use mania::HitObjectPatternGenerator;
 use mania::MirrorChances;
@@ -72,7 +72,7 @@ fn add_one(
     words: &mut [u64],
 ) -> Placed
     requires { ⌜ (i < 16) × (g .columns ≤ 9) × (p .count < length (now words)) ⌝ }
-    ensures { λ r. ⌜ (placed (circleAt (g .start)) (now (words .exit)) r ≡ on (addOne g i c (pattern (circleAt (g .start)) (now (words .entry)) p)) d) × AtMost (p .count + 1) r ⌝ }
+    ensures { λ r. ⌜ (placed (circleAt (g .start)) (now (words .exit)) r ≡ on (Rule.addOne g i c (pattern (circleAt (g .start)) (now (words .entry)) p)) d) × AtMost (p .count + 1) r ⌝ }
 {
     let mask = g.mask;
     if pattern::is_free(mask, i) {
@@ -81,20 +81,20 @@ fn add_one(
     add_note(d, g, c, p, words)
 }
 
-// The column where the note of column i comes: turned round, or its own.
+// The column where the note of column i comes: its mirror image, or its own.
 pub fn goal_of(g: HitObjectPatternGenerator, turn: bool, i: u8) -> u8
     requires { ⌜ (g .columns ≤ 9) × (i < g .columns) ⌝ }
-    ensures { λ r. ⌜ r ≡ goal g turn i ⌝ }
+    ensures { λ r. ⌜ r ≡ (if turn then Rule.image (g .columns) i else i) ⌝ }
 {
     let columns = g.columns;
     let low = pattern::random_start(columns);
     if turn { low + columns - i - 1 } else { i }
 }
 
-// The notes of the previous pattern, each turned round or at its own column.
+// The notes of the previous pattern, each at its mirror image or at its own column.
 pub fn add_each(d: Draws, g: HitObjectPatternGenerator, turn: bool, words: &mut [u64]) -> Placed
     requires { ⌜ (0 < g .columns) × (g .columns ≤ 9) × (16 ≤ length (now words)) ⌝ }
-    ensures { λ r. ⌜ (placed (circleAt (g .start)) (now (words .exit)) r ≡ on (Rule.addEach g (goal g turn) (g .columns - randomStart (g .columns)) (randomStart (g .columns)) empty) d) × AtMost 14 r ⌝ }
+    ensures { λ r. ⌜ (placed (circleAt (g .start)) (now (words .exit)) r ≡ on (if turn then Rule.reversed g else Rule.stacked g) d) × AtMost 14 r ⌝ }
 {
     let columns = g.columns;
     let mut rest = d;
@@ -260,7 +260,7 @@ pub fn generate_random_pattern(
 // A note and its mirror image.
 fn add_pair(d: Draws, g: HitObjectPatternGenerator, c: u8, p: Pattern, words: &mut [u64]) -> Placed
     requires { ⌜ (c < g .columns) × (g .columns ≤ 9) × (p .count + 1 < length (now words)) ⌝ }
-    ensures { λ r. ⌜ (placed (circleAt (g .start)) (now (words .exit)) r ≡ on (addPair g c (pattern (circleAt (g .start)) (now (words .entry)) p)) d) × AtMost (p .count + 2) r ⌝ }
+    ensures { λ r. ⌜ (placed (circleAt (g .start)) (now (words .exit)) r ≡ on (Rule.addPair g c (pattern (circleAt (g .start)) (now (words .entry)) p)) d) × AtMost (p .count + 2) r ⌝ }
 {
     let other = goal_of(g, true, c);
     match add_note(d, g, c, p, words) {
@@ -324,30 +324,13 @@ fn add_centre(
     words: &mut [u64],
 ) -> Placed
     requires { ⌜ (g .columns ≤ 9) × (p .count ≤ 12) × (16 ≤ length (now words)) ⌝ }
-    ensures { λ r. ⌜ (placed (circleAt (g .start)) (now (words .exit)) r ≡ on (addCentre g centre (pattern (circleAt (g .start)) (now (words .entry)) p)) d) × AtMost 13 r ⌝ }
+    ensures { λ r. ⌜ (placed (circleAt (g .start)) (now (words .exit)) r ≡ on (Rule.addCentre g centre (pattern (circleAt (g .start)) (now (words .entry)) p)) d) × AtMost 13 r ⌝ }
 {
     let columns = g.columns;
     if centre {
         return add_note(d, g, columns / 2, p, words);
     }
     Placed::Notes(p, d)
-}
-
-// The end of a mirrored pattern: the note at the centre, and the special one.
-fn mirror_end(
-    d: Draws,
-    g: HitObjectPatternGenerator,
-    centre: bool,
-    p: Pattern,
-    words: &mut [u64],
-) -> Placed
-    requires { ⌜ (g .columns ≤ 9) × (p .count ≤ 12) × (16 ≤ length (now words)) ⌝ }
-    ensures { λ r. ⌜ (placed (circleAt (g .start)) (now (words .exit)) r ≡ on (mirrorEnd g centre (pattern (circleAt (g .start)) (now (words .entry)) p)) d) × AtMost 14 r ⌝ }
-{
-    match add_centre(d, g, centre, p, words) {
-        Placed::Notes(q, next) => add_special(next, g, q, words),
-        Placed::Refused(x, next) => Placed::Refused(x, next),
-    }
 }
 
 // A mirrored pattern of a number of notes at each side, from its first column on.
@@ -359,14 +342,19 @@ fn mirror_from(
     words: &mut [u64],
 ) -> Placed
     requires { ⌜ (2 ≤ g .columns) × (g .columns ≤ 9) × (n ≤ 6) × (16 ≤ length (now words)) ⌝ }
-    ensures { λ r. ⌜ (placed (circleAt (g .start)) (now (words .exit)) r ≡ on (mirrorFrom g n centre) d) × AtMost 14 r ⌝ }
+    ensures { λ r. ⌜ (placed (circleAt (g .start)) (now (words .exit)) r ≡ on (Rule.mirrorFrom g n centre) d) × AtMost 14 r ⌝ }
 {
     let columns = g.columns;
     let low = pattern::random_start(columns);
     match pattern::get_random_column(d, low, columns / 2) {
         Number::Given(c, next) => {
             match add_mirrored(next, g, n, c, words) {
-                Placed::Notes(p, after) => mirror_end(after, g, centre, p, words),
+                Placed::Notes(p, after) => {
+                    match add_centre(after, g, centre, p, words) {
+                        Placed::Notes(q, end) => add_special(end, g, q, words),
+                        Placed::Refused(x, end) => Placed::Refused(x, end),
+                    }
+                }
                 Placed::Refused(x, after) => Placed::Refused(x, after),
             }
         }

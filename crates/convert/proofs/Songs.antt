@@ -18,11 +18,10 @@ use Rattle.record.specs.Laws.Known.{Known}
 use Rattle.record.specs.Laws.Ranges.{fit-song}
 use Rattle.mania.specs.declared.Note.{Note}
 use Rattle.mania.specs.Steps.{double}
-use Rattle.mania.specs.Convert.{columnsOf}
-use Rattle.mania.specs.PatternGenerator.{conversionDifficulty}
+use Rattle.mania.specs.Convert.{columnsBy, targetColumns, keysOr, columnsOf}
+use Rattle.mania.specs.PatternGenerator.{difficultyOf, conversionDifficulty}
+use Rattle.mania.proofs.Demand.{some-columns, few-columns}
 use Rattle.settings.specs.Accepted.{Accepted}
-use Rattle.settings.specs.Counts.{columnsBy, keysOr, difficultyOf}
-use Rattle.settings.specs.Laws.{columns-of, columns-deck, difficulty-of}
 use Rattle.walk.specs.declared.Song.{Song}
 use Rattle.walk.specs.declared.WalkEnd.{WalkEnd}
 use Rattle.walk.specs.Steps.{rule, Ends}
@@ -47,19 +46,16 @@ long-le (o ∷ os) = one-longer (o .kind) (slidersAndSpinners os) (length os) (l
 
 module _ (bytes : List ℕ) (m : Summary) (k : Known bytes m) where
   pub columns-are : (c : ℕ) → c ≡ keysOr (m .keys) (columnsBy (m .settings) (m .long) (m .counts .objects)) → (c ≡ columnsOf (songOf bytes)) × (1 ≤ c) × (c ≤ 9)
+  unfolding columnsOf targetColumns
   columns-are c e =
       let s = songOf bytes in
-      let fit = fit-song bytes s (k .parsed) in
-      let f : c ≡ keysOr (s .keys) (columnsBy (s .settings) (slidersAndSpinners (s .objects)) (length (s .objects))) = rw (← (k .keys), ← (k .settings), ← (k .long), ← (k .number)) e in
-      let d = columns-deck (s .keys) (s .settings) (slidersAndSpinners (s .objects)) (length (s .objects)) (fit .keys) in
-      (f ∙ columns-of s, subst (λ (n : ℕ). 1 ≤ n) (sym f) (d .0), subst (λ (n : ℕ). n ≤ 9) (sym f) (d .1))
+      let f : c ≡ columnsOf s = rw (← (k .keys), ← (k .settings), ← (k .long), ← (k .number)) e in
+      (f, subst (λ (n : ℕ). 1 ≤ n) (sym f) (some-columns s), subst (λ (n : ℕ). n ≤ 9) (sym f) (few-columns s (fit-song bytes s (k .parsed) .keys)))
 
   pub difficulty-is : (x b : Float) → b ≡ breakTime (double 0 1) (breaks bytes At.breaks (m .counts .breaks)) → x ≡ difficultyOf (m .settings) b (m .first) (m .last) (m .counts .objects)
       → x ≡ conversionDifficulty (songOf bytes .settings) (songOf bytes .breaks) (songOf bytes .objects)
-  unfolding zeroStart round
-  difficulty-is x b e f =
-      let s = songOf bytes in
-      f ∙ rw (e, ← (k .breaks), k .settings, k .first, k .last, k .number) (difficulty-of (s .settings) (s .breaks) (s .objects))
+  unfolding conversionDifficulty zeroStart round
+  difficulty-is x b e f = f ∙ rw (e, ← (k .breaks), k .settings, k .first, k .last, k .number)
 
   pub settings-accepted : Accepted (m .settings)
   settings-accepted =

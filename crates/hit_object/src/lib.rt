@@ -9,7 +9,6 @@ ghost use Rattle.mania.specs.PatternType.{contains, reverse, forceStack};
 ghost use Rattle.mania.specs.HitObject as Rule;
 ghost use Rattle.pattern.specs.Answers.{placed, AtMost, Generates};
 ghost use Rattle.circle_notes.specs.Answers.{circleAt};
-ghost use Rattle.hit_object.specs.Parts.{generateFree, generateStair};
 use mania::Facts;
 use mania::HitObjectPatternGenerator;
 use mania::PrevValues;
@@ -113,41 +112,6 @@ fn reverse_stair_column(g: HitObjectPatternGenerator) -> u8
     last - 1
 }
 
-// A pattern that goes by its chances: a single note, a mirrored pattern or a random one.
-fn generate_free(d: Draws, g: HitObjectPatternGenerator, words: &mut [u64]) -> Placed
-    requires { ⌜ (2 ≤ g .columns) × (g .columns ≤ 9) × (16 ≤ length (now words)) ⌝ }
-    ensures { λ r. ⌜ (placed (circleAt (g .start)) (now (words .exit)) r ≡ on (generateFree g) d) × AtMost 14 r ⌝ }
-{
-    let flags = g.flags;
-    let difficulty = g.difficulty;
-    if pattern::has_type(flags, pattern::KEEP_SINGLE) {
-        return circle_notes::generate_random_notes(d, g, 1, words);
-    }
-    if pattern::has_type(flags, pattern::MIRROR) {
-        let m = hit_object_type::mirrored_by(difficulty);
-        return circle_notes::generate_random_pattern_with_mirrored(d, g, m, words);
-    }
-    let rare = pattern::has_type(flags, pattern::LOW_PROBABILITY);
-    let chances = hit_object_type::chances_by(difficulty, rare);
-    circle_notes::generate_random_pattern(d, g, chances, words)
-}
-
-// A pattern that a stair's step makes, or one that goes by its chances.
-fn generate_stair(d: Draws, g: HitObjectPatternGenerator, words: &mut [u64]) -> Placed
-    requires { ⌜ (2 ≤ g .columns) × (g .columns ≤ 9) × (g .last < g .columns) × (16 ≤ length (now words)) ⌝ }
-    ensures { λ r. ⌜ (placed (circleAt (g .start)) (now (words .exit)) r ≡ on (generateStair g) d) × AtMost 14 r ⌝ }
-{
-    if climbs(g, pattern::STAIR) {
-        let c = stair_column(g);
-        return circle_notes::new_note(d, g, c, words);
-    }
-    if climbs(g, pattern::REVERSE_STAIR) {
-        let c = reverse_stair_column(g);
-        return circle_notes::new_note(d, g, c, words);
-    }
-    generate_free(d, g, words)
-}
-
 // A circle's pattern.
 fn generate_core(d: Draws, g: HitObjectPatternGenerator, words: &mut [u64]) -> Placed
     requires { ⌜ (0 < g .columns) × (g .columns ≤ 9) × (g .last < g .columns) × (16 ≤ length (now words)) ⌝ }
@@ -168,7 +132,24 @@ fn generate_core(d: Draws, g: HitObjectPatternGenerator, words: &mut [u64]) -> P
     if stacks(g) {
         return circle_notes::add_each(d, g, false, words);
     }
-    generate_stair(d, g, words)
+    if climbs(g, pattern::STAIR) {
+        let c = stair_column(g);
+        return circle_notes::new_note(d, g, c, words);
+    }
+    if climbs(g, pattern::REVERSE_STAIR) {
+        let c = reverse_stair_column(g);
+        return circle_notes::new_note(d, g, c, words);
+    }
+    if pattern::has_type(g.flags, pattern::KEEP_SINGLE) {
+        return circle_notes::generate_random_notes(d, g, 1, words);
+    }
+    if pattern::has_type(g.flags, pattern::MIRROR) {
+        let m = hit_object_type::mirrored_by(g.difficulty);
+        return circle_notes::generate_random_pattern_with_mirrored(d, g, m, words);
+    }
+    let rare = pattern::has_type(g.flags, pattern::LOW_PROBABILITY);
+    let chances = hit_object_type::chances_by(g.difficulty, rare);
+    circle_notes::generate_random_pattern(d, g, chances, words)
 }
 
 // ---- the whole rule

@@ -7,7 +7,6 @@ ghost use Rattle.mania.specs.Steps.{double};
 ghost use Rattle.mania.specs.PatternType.{stairBit};
 ghost use Rattle.mania.specs.HitObject as Rule;
 ghost use Rattle.pattern.specs.Answers.{number};
-ghost use Rattle.hit_object_type.specs.Unmirrored.{unmirrored};
 use mania::CircleChances;
 use mania::Facts;
 use mania::HitObjectPatternGenerator;
@@ -309,7 +308,7 @@ fn half(x: f64) -> f64
 
 // The chances of a random pattern in place of a mirrored one.
 pub fn unmirrored(m: MirrorChances) -> CircleChances
-    ensures { λ r. ⌜ r ≡ unmirrored m ⌝ }
+    ensures { λ r. ⌜ r ≡ Rule.unmirrored m ⌝ }
 {
     let p2 = m.p2;
     let p3 = m.p3;

@@ -47,7 +47,7 @@ module _ (g : HitObjectPatternGenerator) (some : 0 < g .columns) where
   note-deck c p h = by (ltb c T) _ _ (λ e. giving (put-deck c p (ltb-true c T e) h)) (λ e. refusing)
 
   each-deck : (to : ℕ → ℕ) (n i : ℕ) (p : Pattern Note) → Deck T p → Makes (Deck T) (HitObject.addEach g to n i p)
-  unfolding HitObject.addEach
+  unfolding HitObject.addEach HitObject.addOne
   each-deck to zero i p h = giving h
   each-deck to (suc n) i p h = seq (by (free (g .mask) i) _ _ (λ e. giving h) (λ e. note-deck (to i) p h)) (λ q k. each-deck to n (suc i) q k)
 
@@ -70,12 +70,12 @@ module _ (g : HitObjectPatternGenerator) (some : 0 < g .columns) where
   pattern-deck c = seq any (λ n u. seq (notes-deck n) (λ p h. special-deck p h))
 
   mirror-deck : (n c : ℕ) (p : Pattern Note) → Deck T p → Makes (Deck T) (HitObject.addMirrored g n c p)
-  unfolding HitObject.addMirrored
+  unfolding HitObject.addMirrored HitObject.addPair
   mirror-deck zero c p h = giving h
-  mirror-deck (suc n) c p h = seq any (λ d u. seq (note-deck d p h) (λ q k. seq (note-deck _ q k) (λ r l. mirror-deck n d r l)))
+  mirror-deck (suc n) c p h = seq any (λ d u. seq (seq (note-deck d p h) (λ q k. note-deck _ q k)) (λ r l. mirror-deck n d r l))
 
   mirror-notes-deck : (m : HitObject.Mirrored) → Makes (Deck T) (HitObject.mirrorNotes g m)
-  unfolding HitObject.mirrorNotes
+  unfolding HitObject.mirrorNotes HitObject.mirrorFrom HitObject.addCentre
   mirror-notes-deck m =
       let centre = HitObject.mirroredChances T m .centre in
       seq any

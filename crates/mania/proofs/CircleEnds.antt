@@ -122,7 +122,7 @@ module _ (Q : Refusal → Type 0) (long : Q longSearch) (g : HitObjectPatternGen
   note c p l h = added T (circle c (g .start)) c p l h
 
   each : (to : ℕ → ℕ) → ((i : ℕ) → low ≤ i → i < T → to i < T) → (n i : ℕ) (p : Pattern Note) → low ≤ i → i + n ≤ T → Meets Q Any (HitObject.addEach g to n i p)
-  unfolding HitObject.addEach
+  unfolding HitObject.addEach HitObject.addOne
   each to on zero i p l m = giving tt
   each to on (suc n) i p l m =
       seq {P = Any} (by (free (g .mask) i) _ _ (λ e. giving tt) (λ e. note (to i) p (on i l (omega arith)) tt)) (λ q u. each to on n (suc i) q (omega arith) (omega arith))
@@ -203,16 +203,17 @@ module _ (Q : Refusal → Type 0) (long : Q longSearch) (g : HitObjectPatternGen
   half = T / 2
 
   mirrored : (n c : ℕ) (p : Pattern Note) → In low half c → n ≤ frees (p .mask) low (half - low) → Meets Q Any (HitObject.addMirrored g n c p)
-  unfolding HitObject.addMirrored put
+  unfolding HitObject.addMirrored HitObject.addPair HitObject.image put
   mirrored zero c p h k = giving tt
   mirrored (suc n) c p h k =
       seq (search-in Q long low half (p .mask) (start-small T some) T c h (omega arith))
       (λ d i. let other = low + T - d - 1 in
-      seq {P = λ q. q .mask ≡ bitOr (p .mask) (2 ^ d)} (note d p (omega (arith, i .1 .1)) refl)
-      (λ q e. seq {P = λ r. r .mask ≡ bitOr (q .mask) (2 ^ other)} (note other q (omega (arith, i .1 .0)) refl)
+      seq {P = λ r. r .mask ≡ bitOr (bitOr (p .mask) (2 ^ d)) (2 ^ other)}
+      (seq {P = λ q. q .mask ≡ bitOr (p .mask) (2 ^ d)} (note d p (omega (arith, i .1 .1)) refl)
+      (λ q e. note other q (omega (arith, i .1 .0)) (ap (λ (x : ℕ). bitOr x (2 ^ other)) e)))
       (λ r f. mirrored n d r (i .1)
-      (subst (λ (x : ℕ). n ≤ frees x low (half - low)) (sym (f ∙ ap (λ (x : ℕ). bitOr x (2 ^ other)) e))
-      (omega (arith, frees-put (p .mask) d low (half - low), frees-past (bitOr (p .mask) (2 ^ d)) other low (half - low) (past d (i .1))))))))
+      (subst (λ (x : ℕ). n ≤ frees x low (half - low)) (sym f)
+      (omega (arith, frees-put (p .mask) d low (half - low), frees-past (bitOr (p .mask) (2 ^ d)) other low (half - low) (past d (i .1)))))))
     where
       past : (d : ℕ) → In low half d → low + (half - low) ≤ low + T - d - 1
       past d h = omega (arith, h .0, h .1)
@@ -291,7 +292,7 @@ module _ (Q : Refusal → Type 0) (long : Q longSearch) (g : HitObjectPatternGen
           less (at-most-3 _ _ _ _ _ none-zero none-zero none-zero) (λ n h. to 3 (wide 3 (omega arith) (lit≤ tt) (λ z. l)) n h) (λ r q. q)
 
   mirror-notes : (m : HitObject.Mirrored) → Meets Q Any (HitObject.mirrorNotes g m)
-  unfolding HitObject.mirrorNotes empty
+  unfolding HitObject.mirrorNotes HitObject.mirrorFrom HitObject.addCentre empty
   mirror-notes m =
       let centre = HitObject.mirroredChances T m .centre in
       seq valued
@@ -307,7 +308,7 @@ module _ (Q : Refusal → Type 0) (long : Q longSearch) (g : HitObjectPatternGen
   -- ---- the branches
 
   reversed : Meets Q Any (HitObject.reversed g)
-  unfolding HitObject.reversed
+  unfolding HitObject.reversed HitObject.image
   reversed = each _ (λ i l m. omega arith) (T - low) low empty (omega arith) (omega (arith, two-columns T some))
 
   stacked : Meets Q Any (HitObject.stacked g)
@@ -365,7 +366,7 @@ module _ (Q : Refusal → Type 0) (long : Q longSearch) (g : HitObjectPatternGen
           (λ e. by (ltb (HitObject.reverseStairColumn g) T) _ _ (λ u. giving tt) (λ u. refusing (ten (e .0) (e .1) a f))) reverse-on
 
       core : Meets Q Any (HitObject.generateCore g)
-      unfolding HitObject.generateCore
+      unfolding HitObject.generateCore HitObject.image
       core =
           by (eqb T 1) _ _ (λ e. note 0 empty (omega arith) tt)
           (λ e. by (contains (g .flags) reverse && HitObject.some g) _ _ (λ e. reversed)

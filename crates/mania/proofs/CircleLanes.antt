@@ -115,7 +115,7 @@ module _ (g : HitObjectPatternGenerator) (P : Note → Type 0) (fine : (c : ℕ)
         more j l = omega arith
 
     each-two : (n i : ℕ) (p : Pattern Note) → i + n ≤ T → Before i p → Makes (Distinct P) (HitObject.addEach g to n i p)
-    unfolding HitObject.addEach HitObject.addNote put circle
+    unfolding HitObject.addEach HitObject.addOne HitObject.addNote put circle
     each-two zero i p l h = giving (h .1)
     each-two (suc n) i p l h =
         seq {P = Before (suc i)}
@@ -147,9 +147,9 @@ module _ (g : HitObjectPatternGenerator) (P : Note → Type 0) (fine : (c : ℕ)
       go false = omega arith
 
   reversed-two : 1 ≤ T → Makes (Distinct P) (HitObject.reversed g)
-  unfolding HitObject.reversed empty
+  unfolding HitObject.reversed HitObject.image empty
   reversed-two t =
-      each-two (λ i. randomStart T + T - i - 1) (λ j i l k e. turned (randomStart T) T j i l k e) (T - randomStart T) (randomStart T) empty
+      each-two (HitObject.image T) (λ j i l k e. turned (randomStart T) T j i l k e) (T - randomStart T) (randomStart T) empty
       (whole (randomStart T) (start-in t)) (tt, (tt, tt))
     where
       turned : (low n j i : ℕ) → j < i → i < n → low + n - j - 1 ≡ low + n - i - 1 → ⊥
@@ -173,7 +173,7 @@ module _ (g : HitObjectPatternGenerator) (P : Note → Type 0) (fine : (c : ℕ)
   Half = T / 2
 
   abbrev image : ℕ → ℕ
-  image d = randomStart T + T - d - 1
+  image = HitObject.image T
 
   -- each note is at a column of the left half that the mask has, or at the image of one
   abbrev Paired : Pattern Note → Note → Type 0
@@ -196,10 +196,12 @@ module _ (g : HitObjectPatternGenerator) (P : Note → Type 0) (fine : (c : ℕ)
   image-image low n d e c h k i j = omega arith
 
   off-left : (p : Pattern Note) (e : ℕ) → bit (p .mask) e ≡ 0 → e < Half → (n : Note) → Paired p n → n .column ≡ e → ⊥
+  unfolding HitObject.image
   off-left p e f l n k j =
       ⊎-elim (λ i. left-left (n .column) (k .0) e (p .mask) (k .3) f i j) (λ i. image-left (randomStart T) T (k .0) e (n .column) (k .2) l i j) (k .4)
 
   off-image : (p : Pattern Note) (e : ℕ) → bit (p .mask) e ≡ 0 → e < Half → (n : Note) → Paired p n → n .column ≡ image e → ⊥
+  unfolding HitObject.image
   off-image p e f l n k j =
       ⊎-elim (λ i. left-image (randomStart T) T (k .0) e (n .column) (k .2) l i j)
       (λ i. clash (p .mask) (k .0) e (k .3) f (image-image (randomStart T) T (k .0) e (n .column) (k .2) l i j)) (k .4)
@@ -216,7 +218,7 @@ module _ (g : HitObjectPatternGenerator) (P : Note → Type 0) (fine : (c : ℕ)
   self-image low n d h e = omega arith
 
   half-way : (p : Pattern Note) (d : ℕ) → d < T → Pairs p → bit (p .mask) d ≡ 0 → randomStart T ≤ d → d < Half → Half-way d (put (circle d (g .start)) d p)
-  unfolding put circle
+  unfolding HitObject.image put circle
   half-way p d on h f l k =
       let x : Note = circle d (g .start) in
       let own : bit (bitOr (p .mask) (2 ^ d)) d ≡ 1 = or-own (p .mask) d in (
@@ -238,15 +240,17 @@ module _ (g : HitObjectPatternGenerator) (P : Note → Type 0) (fine : (c : ℕ)
       )
 
   mirror-pairs : (n c : ℕ) (p : Pattern Note) → randomStart T < Half → (randomStart T ≤ c) × (c < Half) → Pairs p → Makes Pairs (HitObject.addMirrored g n c p)
-  unfolding HitObject.addMirrored HitObject.addNote
+  unfolding HitObject.addMirrored HitObject.addPair HitObject.addNote
   mirror-pairs zero c p s l h = giving h
   mirror-pairs (suc n) c p s l h =
       seq (find-draw (λ d. (randomStart T ≤ d) × (d < Half)) T (randomStart T) Half (p .mask) (within (randomStart T) Half s) c l)
-      (λ d k. seq {P = Half-way d} (added T (circle d (g .start)) d p (λ on. half-way p d on h (k .0) (k .1 .0) (k .1 .1)))
-      (λ q i. seq {P = Pairs} (added T (circle (image d) (g .start)) (image d) q (λ on. all-way q d on i (k .1 .0) (k .1 .1)))
-      (λ r j. mirror-pairs n d r s (k .1) j)))
+      (λ d k. seq {P = Pairs}
+      (seq {P = Half-way d} (added T (circle d (g .start)) d p (λ on. half-way p d on h (k .0) (k .1 .0) (k .1 .1)))
+      (λ q i. added T (circle (image d) (g .start)) (image d) q (λ on. all-way q d on i (k .1 .0) (k .1 .1))))
+      (λ r j. mirror-pairs n d r s (k .1) j))
 
   pair-clear : (n : Note) (p : Pattern Note) → Paired p n → 0 < randomStart T → n .column ≡ 0 → ⊥
+  unfolding HitObject.image
   pair-clear n p k z e = ⊎-elim (λ i. one (n .column) (k .0) (k .1) z i e) (λ i. two (randomStart T) T (k .0) (n .column) (k .2) z i e) (k .4)
     where
       one : (c d : ℕ) → randomStart T ≤ d → 0 < randomStart T → c ≡ d → c ≡ 0 → ⊥
@@ -263,6 +267,7 @@ module _ (g : HitObjectPatternGenerator) (P : Note → Type 0) (fine : (c : ℕ)
   odd false h = refl
 
   off-centre : (n : Note) (p : Pattern Note) → (T % 2 ≡ 0 → ⊥) → Paired p n → n .column ≡ Half → ⊥
+  unfolding HitObject.image
   off-centre n p t k e = ⊎-elim (λ i. one (n .column) (k .0) Half (k .2) i e) (λ i. two (randomStart T) T (k .0) (n .column) t (k .2) i e) (k .4)
     where
       one : (c d h : ℕ) → d < h → c ≡ d → c ≡ h → ⊥
@@ -282,7 +287,7 @@ module _ (g : HitObjectPatternGenerator) (P : Note → Type 0) (fine : (c : ℕ)
       some a b l e = omega arith
 
   mirror-two : 2 ≤ T → (m : HitObject.Mirrored) → Makes (Distinct P) (HitObject.mirrorNotes g m)
-  unfolding HitObject.mirrorNotes HitObject.addNote HitObject.atCentre empty
+  unfolding HitObject.mirrorNotes HitObject.mirrorFrom HitObject.addCentre HitObject.addNote HitObject.atCentre empty
   mirror-two t m =
       let s = start-small T t in
       let centre = HitObject.mirroredChances T m .centre in

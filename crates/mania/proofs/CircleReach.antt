@@ -167,7 +167,7 @@ module _ (g : HitObjectPatternGenerator) (eight : g .columns ≡ 8) where
 
     each : (to : ℕ → ℕ) → ((i : ℕ) → 1 ≤ i → i < T → 1 ≤ to i) → (n i : ℕ) (p : Pattern Note) → 1 ≤ i → i + n ≤ T → Beside (p .mask) → ones (p .mask) + n ≤ ones (g .mask) + frees (g .mask) i n
         → Makes (λ q. ReachedOf8 (q .mask)) (HitObject.addEach g to n i p)
-    unfolding HitObject.addEach frees put
+    unfolding HitObject.addEach HitObject.addOne frees put
     each to above zero i p l m b h = giving (record { few = omega arith; beside = beside-not (p .mask) b })
     each to above (suc n) i p l m b h =
         seq {P = λ q. Beside (q .mask) × (ones (q .mask) + n ≤ ones (g .mask) + frees (g .mask) (suc i) n)}
@@ -180,7 +180,7 @@ module _ (g : HitObjectPatternGenerator) (eight : g .columns ≡ 8) where
         go false h = note (to i) p (λ on. (inr (above-own (p .mask) (to i) (above i l (omega arith))), omega (arith, ones-put (p .mask) (to i))))
 
     reversed : Makes (λ q. ReachedOf8 (q .mask)) (HitObject.reversed g)
-    unfolding HitObject.reversed empty ones onesIn
+    unfolding HitObject.reversed HitObject.image empty ones onesIn
     reversed = each _ (λ i l m. omega (arith, low)) (T - randomStart T) (randomStart T) empty (omega (arith, low)) (omega (arith, low)) (inl refl) (omega (arith, room (g .mask) (randomStart T) (T - randomStart T)))
 
     stacked : Makes (λ q. ReachedOf8 (q .mask)) (HitObject.stacked g)
@@ -207,7 +207,7 @@ module _ (g : HitObjectPatternGenerator) (eight : g .columns ≡ 8) where
           go false e l = let z = eqb-false (g .last) (randomStart T) e in omega (arith, low)
 
       core : Makes (λ p. ReachedOf8 (p .mask)) (HitObject.generateCore g)
-      unfolding HitObject.generateCore
+      unfolding HitObject.generateCore HitObject.image
       core =
           by (eqb T 1) _ _ (λ e. let z = eqb-true T 1 e in absurd (omega arith))
           (λ e. by (contains (g .flags) reverse && HitObject.some g) _ _ (λ e. reversed)

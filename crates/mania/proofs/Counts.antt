@@ -35,7 +35,7 @@ use Rattle.mania.specs.Job.{under}
 use Rattle.mania.specs.Demand.{Each}
 use Rattle.random.specs.Play.{on}
 use Rattle.random.specs.Laws.Gives.{Gives}
-use Rattle.mania.proofs.Makes.{Makes, giving, refusing, seq, less, by, added, label-gives, ran}
+use Rattle.mania.proofs.Makes.{Makes, giving, refusing, seq, less, by, added, labelled, ran}
 use Rattle.mania.proofs.Bars.{kept, ending-kept}
 use Rattle.mania.proofs.Demand.{spans-fit, some-spans, some-columns}
 use Rattle.mania.proofs.Pigeons.{pigeons}
@@ -305,8 +305,7 @@ module _ (columns : ℕ) (some : 1 ≤ columns) (deck : columns ≤ 9) where
   walk-few s difficulty room i w (o ∷ os) h =
       let d = Convert.meets (o .kind) (o .start) (w .density) in
       let f = Convert.factsAt s difficulty d o in
-      seq {P = λ (made : Made). length (made .notes) ≤ 2050}
-      (record { made = label-gives (λ (made : Made). length (made .notes) ≤ 2050) (λ p. i) (at i) (Convert.objectIn columns room f w o) (object-few room f w o (h .0 .repeats) .made) })
+      seq (labelled (λ p. i) (at i) (object-few room f w o (h .0 .repeats)))
       (λ made k. seq (walk-few s difficulty room (suc i) (Convert.afterObject f o d made w) os (h .1))
       (λ rest l. giving (more (length (made .notes)) (length (inWalkOrder rest)) (length os) k l (length-append (made .notes) (inWalkOrder rest)))))
     where
@@ -335,7 +334,7 @@ module _ (columns : ℕ) where
 
   walk-room : (s : Song) (difficulty : Float) (room i : ℕ) (w : Walk) (os : List Object) → 8 + 17 * w .notes ≤ room
       → Makes (λ nss. 8 + 17 * (w .notes + length (inWalkOrder nss)) ≤ room) (Convert.walk s difficulty columns room i w os)
-  unfolding Convert.walk Convert.afterObject inWalkOrder
+  unfolding Convert.walk Convert.afterObject Convert.walkAfter inWalkOrder
   walk-room s difficulty room i w [] h = giving (empty-room (w .notes) h)
     where
       empty-room : (n : ℕ) → 8 + 17 * n ≤ room → 8 + 17 * (n + 0) ≤ room
@@ -343,8 +342,7 @@ module _ (columns : ℕ) where
   walk-room s difficulty room i w (o ∷ os) h =
       let d = Convert.meets (o .kind) (o .start) (w .density) in
       let f = Convert.factsAt s difficulty d o in
-      seq {P = λ (made : Made). 8 + 17 * (w .notes + length (made .notes)) ≤ room}
-      (record { made = label-gives (λ (made : Made). 8 + 17 * (w .notes + length (made .notes)) ≤ room) (λ p. i) (at i) (Convert.objectIn columns room f w o) (object-room room f w o .made) })
+      seq (labelled (λ p. i) (at i) (object-room room f w o))
       (λ made k. seq (walk-room s difficulty room (suc i) (Convert.afterObject f o d made w) os k)
       (λ rest l. giving (more (w .notes) (length (made .notes)) (length (inWalkOrder rest)) l (length-append (made .notes) (inWalkOrder rest)))))
     where

@@ -5,7 +5,7 @@ use native.Mathlib.Nat.{div-mul-le-self, mul-pos}
 use native.Mathlib.Omega.{arith}
 use mathlib.Core.Bool.{Bool, true, false, _||_}
 use mathlib.Core.List.{List, [], _∷_}
-use lib.Dec.{eqb, leb, ltb}
+use lib.Dec.{eqb, leb, ltb, lit≤}
 use lib.Ieee.{Float, le, lt}
 use lib.ListN.{length}
 use borrow.Author.Tests.{eqb-false}
@@ -20,7 +20,7 @@ use Rattle.mania.specs.declared.SliderNote.{SliderNote}
 use Rattle.model.specs.declared.Kind.{Kind}
 use Rattle.model.specs.declared.Kind.the-variants.{Circle, Slider, Spinner, Hold}
 use Rattle.mania.specs.Steps.{double}
-use Rattle.mania.specs.Made.{Made, circle}
+use Rattle.mania.specs.Made.{circle}
 use Rattle.mania.specs.LimitedQueue.{Density}
 use Rattle.mania.specs.PatternGenerator.{conversionDifficulty}
 use Rattle.mania.specs.EndTimeObject
@@ -32,7 +32,7 @@ use Rattle.model.specs.Song.{Song}
 use Rattle.mania.specs.Convert.{Walk, at, seed, columnsOf, convert}
 use Rattle.mania.specs.Job.{under}
 use Rattle.mania.specs.Demand.{Each, Lanes, OnDeck}
-use Rattle.mania.proofs.Makes.{Makes, giving, refusing, seq, by, label-gives, ran}
+use Rattle.mania.proofs.Makes.{Makes, giving, refusing, seq, by, labelled, ran}
 use Rattle.mania.proofs.CircleLanes.{circle-lanes}
 use Rattle.mania.proofs.SliderLanes.{slider-lanes}
 use Rattle.mania.proofs.EndLanes.{end-lanes}
@@ -95,68 +95,55 @@ module _ (P : Note → Type 0) (columns : ℕ) (t : 1 ≤ columns) where
   walk-notes s difficulty room i w (o ∷ os) h =
       let d = Convert.meets (o .kind) (o .start) (w .density) in
       let f = Convert.factsAt s difficulty d o in
-      seq {P = λ (made : Made). Sound P (made .notes)}
-      (record { made = label-gives (λ (made : Made). Sound P (made .notes)) (λ p. i) (at i) (Convert.objectIn columns room f w o) (object-in-notes room f w o (h .0 d) .made) })
+      seq (labelled (λ p. i) (at i) (object-in-notes room f w o (h .0 d)))
       (λ made k. seq (walk-notes s difficulty room (suc i) (Convert.afterObject f o d made w) os (h .1)) (λ rest l. giving (k, l)))
 
--- ---- there is a column
+-- ---- the columns are 1 to 9, where the key choice is at most 9
 
-od-columns : (od : ℕ) → 1 ≤ Convert.columnsByOd od
+abbrev Deck : ℕ → Type 0
+Deck n = (1 ≤ n) × (n ≤ 9)
+
+pick : (b : Bool) (m n : ℕ) → Deck m → Deck n → Deck (if b then m else n)
+pick true m n h k = h
+pick false m n h k = k
+
+od-deck : (od : ℕ) → Deck (Convert.columnsByOd od)
 unfolding Convert.columnsByOd
-od-columns od = omega arith
+od-deck od = (omega arith, omega arith)
 
-pick : (b : Bool) (x y : ℕ) → 1 ≤ x → 1 ≤ y → 1 ≤ (if b then x else y)
-pick true x y h k = h
-pick false x y h k = k
-
-share-columns : (share : Float) (cs od : ℕ) → 1 ≤ Convert.columnsByShare share cs od
+share-deck : (share : Float) (cs od : ℕ) → Deck (Convert.columnsByShare share cs od)
 unfolding Convert.columnsByShare
-share-columns share cs od =
-    pick (lt share (double 2 10)) _ _ (omega arith)
-    (pick (lt share (double 3 10) || leb 5 cs) _ _ (pick (ltb 5 od) _ _ (omega arith) (omega arith))
-    (pick (lt (double 6 10) share) _ _ (pick (ltb 4 od) _ _ (omega arith) (omega arith)) (od-columns od)))
+share-deck share cs od =
+    pick (lt share (double 2 10)) _ _ (lit≤ tt, lit≤ tt)
+    (pick (lt share (double 3 10) || leb 5 cs) _ _ (pick (ltb 5 od) 7 6 (lit≤ tt, lit≤ tt) (lit≤ tt, lit≤ tt))
+    (pick (lt (double 6 10) share) _ _ (pick (ltb 4 od) 5 4 (lit≤ tt, lit≤ tt) (lit≤ tt, lit≤ tt)) (od-deck od)))
 
-target-columns : (s : Settings) (os : List Object) → 1 ≤ Convert.targetColumns s os
-unfolding Convert.targetColumns
-target-columns s [] = od-columns _
-target-columns s (o ∷ os) = share-columns _ _ _
+pub at-deck : (long objects cs od : ℕ) → Deck (Convert.columnsAt long objects cs od)
+unfolding Convert.columnsAt
+at-deck long objects cs od = pick (eqb objects 0) _ _ (od-deck od) (share-deck _ cs od)
+
+target-deck : (s : Settings) (os : List Object) → Deck (Convert.targetColumns s os)
+unfolding Convert.targetColumns Convert.columnsBy
+target-deck s os = at-deck _ _ _ _
 
 pub some-columns : (s : Song) → 1 ≤ columnsOf s
-unfolding columnsOf
+unfolding columnsOf Convert.keysOr
 some-columns s = go (eqb (s .keys) 0) refl
   where
     some : (k : ℕ) → (k ≡ 0 → ⊥) → 1 ≤ k
     some k n = omega arith
 
     go : (b : Bool) → eqb (s .keys) 0 ≡ b → 1 ≤ (if b then Convert.targetColumns (s .settings) (s .objects) else s .keys)
-    go true e = target-columns (s .settings) (s .objects)
+    go true e = target-deck (s .settings) (s .objects) .0
     go false e = some (s .keys) (eqb-false (s .keys) 0 e)
 
--- and at most 9, where the key choice is
-
-pick-le : (b : Bool) (x y n : ℕ) → x ≤ n → y ≤ n → (if b then x else y) ≤ n
-pick-le true x y n h k = h
-pick-le false x y n h k = k
-
-od-few : (od : ℕ) → Convert.columnsByOd od ≤ 9
-unfolding Convert.columnsByOd
-od-few od = omega arith
-
-share-few : (share : Float) (cs od : ℕ) → Convert.columnsByShare share cs od ≤ 9
-unfolding Convert.columnsByShare
-share-few share cs od =
-    pick-le (lt share (double 2 10)) _ _ 9 (omega arith)
-    (pick-le (lt share (double 3 10) || leb 5 cs) _ _ 9 (pick-le (ltb 5 od) _ _ 9 (omega arith) (omega arith))
-    (pick-le (lt (double 6 10) share) _ _ 9 (pick-le (ltb 4 od) _ _ 9 (omega arith) (omega arith)) (od-few od)))
-
-target-few : (s : Settings) (os : List Object) → Convert.targetColumns s os ≤ 9
-unfolding Convert.targetColumns
-target-few s [] = od-few _
-target-few s (o ∷ os) = share-few _ _ _
-
 pub few-columns : (s : Song) → s .keys ≤ 9 → columnsOf s ≤ 9
-unfolding columnsOf
-few-columns s h = pick-le (eqb (s .keys) 0) _ _ 9 (target-few (s .settings) (s .objects)) h
+unfolding columnsOf Convert.keysOr
+few-columns s h = go (eqb (s .keys) 0)
+  where
+    go : (b : Bool) → (if b then Convert.targetColumns (s .settings) (s .objects) else s .keys) ≤ 9
+    go true = target-deck (s .settings) (s .objects) .1
+    go false = h
 
 -- P holds of the notes that can come from each object of a song
 abbrev pub Notes : (Note → Type 0) → Song → Type 0

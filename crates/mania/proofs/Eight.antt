@@ -28,7 +28,7 @@ use Rattle.mania.specs.declared.Facts.{Facts}
 use Rattle.mania.specs.Made.{Made}
 use Rattle.mania.specs.LimitedQueue.{Density}
 use Rattle.mania.specs.Object.{object}
-use Rattle.mania.specs.Convert.{Walk, AtObject, at, seed, columnsOf, beginning, meets, factsAt, afterObject, walk, convert}
+use Rattle.mania.specs.Convert.{Walk, AtObject, at, seed, columnsOf, beginning, meets, factsAt, walkAfter, afterObject, walk, convert}
 use Rattle.mania.specs.Walked.{Stop, stop, spentAt, refusedAt, onWalk}
 use Rattle.mania.specs.PatternGenerator.{conversionDifficulty}
 use Rattle.mania.specs.Refusals.{LateAt, TooLate}
@@ -73,7 +73,7 @@ module _ (s : Song) (difficulty : Float) (columns room : ℕ) (some : 1 ≤ colu
         omega arith
 
     later : (made : Made) (f : Draws) → on rule d ≡ found made f → ltb room (8 + 17 * (w .notes + length (made .notes))) ≡ false → Prior s difficulty columns room i w (o ∷ os) d j e
-    unfolding before afterObject
+    unfolding before afterObject walkAfter
     later made f u l =
         let on-from : (os : List Object) → onWalk (walk s difficulty columns room i w (o ∷ os)) d ≡ before (made .notes ∷ []) (onWalk (walk s difficulty columns room (suc i) (afterObject facts o dens made w) os) f)
         = λ os. sym (before-none (onWalk (walk s difficulty columns room i w (o ∷ os)) d)) ∙ walk-made s difficulty columns room i w o os d made f u l [] in

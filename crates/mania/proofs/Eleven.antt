@@ -30,7 +30,7 @@ use Rattle.mania.specs.LimitedQueue.{Density}
 use Rattle.mania.specs.Object.{object}
 use Rattle.mania.specs.Chart.{inWalkOrder}
 use Rattle.model.specs.Song.{Song}
-use Rattle.mania.specs.Convert.{Walk, AtObject, at, seed, columnsOf, beginning, meets, factsAt, afterObject, walk, convert}
+use Rattle.mania.specs.Convert.{Walk, AtObject, at, seed, columnsOf, beginning, meets, factsAt, walkAfter, afterObject, walk, convert}
 use Rattle.mania.specs.Walked.{Stop, stop, spentAt, refusedAt, onWalk}
 use Rattle.mania.specs.PatternGenerator.{conversionDifficulty}
 use Rattle.mania.specs.Refusals.{TooLong}
@@ -122,7 +122,7 @@ module _ (s : Song) (difficulty : Float) (columns room : ℕ) (some : 1 ≤ colu
         }
 
     later : (made : Made) (f : Draws) → on rule d ≡ found made f → ltb room (8 + 17 * (w .notes + length (made .notes))) ≡ false → Long s difficulty columns room i w (o ∷ os) d j e
-    unfolding before afterObject
+    unfolding before afterObject walkAfter
     later made f u l =
         let t = sym (before-none (onWalk (walk s difficulty columns room i w (o ∷ os)) d)) ∙ walk-made s difficulty columns room i w o os d made f u l [] in
         let next-on = object-left facts (w .prev) columns o some deck (on-deck .0) (on-deck .1) d made f u in

@@ -28,7 +28,7 @@ use Rattle.mania.specs.LimitedQueue.{Density}
 use Rattle.mania.specs.Object.{object}
 use Rattle.mania.specs.Chart.{inWalkOrder}
 use Rattle.mania.specs.PatternGenerator.{conversionDifficulty}
-use Rattle.mania.specs.Convert.{Walk, AtObject, columnsOf, beginning, meets, factsAt, afterObject, walk}
+use Rattle.mania.specs.Convert.{Walk, AtObject, columnsOf, beginning, meets, factsAt, walkAfter, afterObject, walk}
 use Rattle.mania.specs.Walked.{Stop, spentAt, refusedAt, onWalk}
 use Rattle.mania.specs.Reached.{walkTo, reaches, Follows}
 use Rattle.mania.specs.Laws.Walks.{before, walk-refused, walk-full, walk-made}
@@ -71,7 +71,7 @@ module _ (s : Song) (difficulty : Float) (columns room : ℕ) where
     whole = onWalk (walk s difficulty columns room i w (o ∷ take k os)) d
 
     on-from : (made : Made) (f : Draws) → on rule d ≡ found made f → (b : Bool) → ltb room (8 + 17 * (w .notes + length (made .notes))) ≡ b → Comes (suc k) w (o ∷ os) d nss e
-    unfolding walkTo afterObject
+    unfolding walkTo afterObject walkAfter
     on-from made f u true l = let z : _≡_ {A = ℕ} 1 0 = ap kind (sym (sym (before-none whole) ∙ walk-full s difficulty columns room i w o (take k os) d made f u l []) ∙ h) in absurd (omega arith)
     on-from made f u false l =
         let t = sym (before-none whole) ∙ walk-made s difficulty columns room i w o (take k os) d made f u l [] in

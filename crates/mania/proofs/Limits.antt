@@ -110,7 +110,7 @@ module _ (g : HitObjectPatternGenerator) where
   note c p = added (g .columns) _ c p
 
   each : (to : ℕ → ℕ) (n i : ℕ) (p : Pattern Note) → Bound (HitObject.addEach g to n i p)
-  unfolding HitObject.addEach
+  unfolding HitObject.addEach HitObject.addOne
   each to zero i p = giving
   each to (suc n) i p = seq (by (free (g .mask) i) _ _ giving (note (to i) p)) (λ q. each to n (suc i) q)
 
@@ -132,12 +132,12 @@ module _ (g : HitObjectPatternGenerator) where
   pattern c = seq (count _ _ _ _ _) (λ n. seq (random-notes n) special)
 
   mirrors : (n c : ℕ) (p : Pattern Note) → Bound (HitObject.addMirrored g n c p)
-  unfolding HitObject.addMirrored
+  unfolding HitObject.addMirrored HitObject.addPair
   mirrors zero c p = giving
-  mirrors (suc n) c p = seq (find _ _ _ _ _ _) (λ d. seq (note d p) (λ q. seq (note _ q) (λ r. mirrors n d r)))
+  mirrors (suc n) c p = seq (find _ _ _ _ _ _) (λ d. seq (seq (note d p) (note _)) (λ q. mirrors n d q))
 
   mirrored : (m : HitObject.Mirrored) → Bound (HitObject.mirrorNotes g m)
-  unfolding HitObject.mirrorNotes
+  unfolding HitObject.mirrorNotes HitObject.mirrorFrom HitObject.addCentre
   mirrored m = seq valued (λ v. seq (count _ _ _ _ _) (λ n. seq (column _ _) (λ c. seq (mirrors n c empty) (λ p. seq (by (HitObject.atCentre _ _ _ _) _ _ (note _ p) giving) special))))
 
   with-mirrored : (m : HitObject.Mirrored) → Bound (HitObject.generateRandomPatternWithMirrored g m)

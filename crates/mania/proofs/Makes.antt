@@ -63,12 +63,15 @@ both-give P Q (drawUntil w limit r test f) h k = λ v n l e. both-give P Q (f v 
 pub both : {W R A : Type 0} {P Q : A → Type 0} {m : Rule W R A} → Makes P m → Makes Q m → Makes (λ a. P a × Q a) m
 both {P = P} {Q = Q} {m = m} h k = record { made = both-give P Q m (h .made) (k .made) }
 
-pub label-gives : {W W' R S A : Type 0} (P : A → Type 0) (f : W → W') (g : R → S) (m : Rule W R A) → Gives P m → Gives P (label f g m)
+label-gives : {W W' R S A : Type 0} (P : A → Type 0) (f : W → W') (g : R → S) (m : Rule W R A) → Gives P m → Gives P (label f g m)
 unfolding label
 label-gives P f g (give a) h = h
 label-gives P f g (refuse r) h = tt
 label-gives P f g (draw r k) h = λ v l. label-gives P f g (k v) (h v l)
 label-gives P f g (drawUntil w limit r test k) h = λ v n l e. label-gives P f g (k v n) (h v n l e)
+
+pub labelled : {W W' R S A : Type 0} {P : A → Type 0} (f : W → W') (g : R → S) {m : Rule W R A} → Makes P m → Makes P (label f g m)
+labelled {P = P} f g {m = m} h = record { made = label-gives P f g m (h .made) }
 
 -- a value is below 2 ^ 31
 pub valued : {R : Type 0} → Makes (λ v. v < 2 ^ 31) (value {R = R})

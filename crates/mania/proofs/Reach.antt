@@ -31,7 +31,7 @@ use Rattle.mania.specs.HitObject
 use Rattle.mania.specs.PathObject
 use Rattle.mania.specs.EndTimeObject
 use Rattle.mania.specs.Object.{byKind, object}
-use Rattle.mania.specs.Convert.{Walk, AtObject, at, beginning, meets, factsAt, afterObject, objectIn, walk, columnsOf, convert}
+use Rattle.mania.specs.Convert.{Walk, AtObject, at, beginning, meets, factsAt, walkAfter, afterObject, objectIn, walk, columnsOf, convert}
 use Rattle.mania.specs.Single.{patternFits, entryRefusal}
 use Rattle.mania.specs.Refusals.{Late, LateAt, Blocked, Below, InWalk}
 use Rattle.mania.specs.Reached.{most, ReachedOf8, Reached, walkTo, reaches, Valid, Reasons}
@@ -171,7 +171,7 @@ module _ (f : Facts) (v : PrevValues) (columns : ℕ) (o : Object) (before : Rea
 
 -- the next object meets a reached pattern again
 next-reached : (columns : ℕ) (f : Facts) (o : Object) (d : Density) (made : Made) (w : Walk) → 1 ≤ columns → columns ≤ 9 → Leaves columns made → Reached columns (afterObject f o d made w .prev)
-unfolding afterObject
+unfolding afterObject walkAfter
 next-reached columns f o d made w some deck h =
     record { of-8 = h .of-8; fits = own-fits _ columns some deck (h .owned .mask) (h .owned .last) (h .owned .own) }
 

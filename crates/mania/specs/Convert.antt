@@ -17,6 +17,7 @@ use Rattle.model.specs.declared.Object.{Object}
 use Rattle.model.specs.Song.{Song}
 use Rattle.mania.specs.declared.Facts.{Facts}
 use Rattle.mania.specs.declared.PrevValues.{PrevValues}
+use Rattle.mania.specs.declared.Stair.{Stair}
 use Rattle.mania.specs.declared.Stair.the-variants.{Up}
 use Rattle.mania.specs.declared.Note.{Note}
 use Rattle.mania.specs.Steps.{single, double, double#}
@@ -46,15 +47,25 @@ columnsByShare share cs od =
     else if lt (double 6 10) share then (if ltb 4 od then 5 else 4)
     else columnsByOd od
 
--- `target_columns` without a key choice; the share is a quotient in f64
+-- by cs and od rounded, where `long` of the objects are sliders or spinners; the share is a quotient in f64
+unfoldable pub columnsAt : ℕ → ℕ → ℕ → ℕ → ℕ
+columnsAt long objects cs od = if eqb objects 0 then columnsByOd od else columnsByShare (div binary64 (double# long) (double# objects)) cs od
+
+-- and by the settings
+unfoldable pub columnsBy : Settings → ℕ → ℕ → ℕ
+columnsBy s long objects = columnsAt long objects (count Even (s .cs)) (count Even (s .od))
+
+-- `target_columns` without a key choice
 unfoldable pub targetColumns : Settings → List Object → ℕ
-targetColumns s [] = columnsByOd (count Even (s .od))
-targetColumns s (o ∷ os) =
-    columnsByShare (div binary64 (double# (slidersAndSpinners (o ∷ os))) (double# (length (o ∷ os)))) (count Even (s .cs)) (count Even (s .od))
+targetColumns s objects = columnsBy s (slidersAndSpinners objects) (length objects)
+
+-- the key choice, else another count
+unfoldable pub keysOr : ℕ → ℕ → ℕ
+keysOr keys other = if eqb keys 0 then other else keys
 
 -- the key choice, else `target_columns`
 unfoldable pub columnsOf : Song → ℕ
-columnsOf s = if eqb (s .keys) 0 then targetColumns (s .settings) (s .objects) else s .keys
+columnsOf s = keysOr (s .keys) (targetColumns (s .settings) (s .objects))
 
 -- ---- the walk
 
@@ -101,19 +112,26 @@ unfoldable pub nodes : Object → ℕ → ℕ → ℕ → Density → Density
 nodes o length zero n d = d
 nodes o length (suc k) n d = nodes o length k (suc n) (computeDensity (nodeTime o length n) d)
 
+-- `segment_duration` of a slider; 0 where an object has no spans
+unfoldable pub spanIn : Facts → Object → Kind → ℕ
+spanIn f o Circle = 0
+spanIn f o (Slider repeats distance node) = spanLength f o repeats distance
+spanIn f o (Spinner duration) = 0
+spanIn f o (Hold duration) = 0
+
 -- the density after an object. The Rust counts a slider's nodes before it makes the pattern, which does not read the density
-unfoldable pub leaves : Facts → Object → Kind → Density → Density
-leaves f o Circle d = d
-leaves f o (Slider repeats distance node) d = nodes o (spanLength f o repeats distance) (repeats + 2) 0 d
-leaves f o (Spinner duration) d = computeDensity (add binary64 (o .start) duration) d
-leaves f o (Hold duration) d = computeDensity (add binary64 (o .start) duration) d
+unfoldable pub leaves : Object → ℕ → Kind → Density → Density
+leaves o span Circle d = d
+leaves o span (Slider repeats distance node) d = nodes o span (repeats + 2) 0 d
+leaves o span (Spinner duration) d = computeDensity (add binary64 (o .start) duration) d
+leaves o span (Hold duration) d = computeDensity (add binary64 (o .start) duration) d
 
 -- the previous time after an object: of a slider its last node's
-unfoldable pub timeAfter : Facts → Object → Kind → Float
-timeAfter f o Circle = o .start
-timeAfter f o (Slider repeats distance node) = nodeTime o (spanLength f o repeats distance) (repeats + 1)
-timeAfter f o (Spinner duration) = add binary64 (o .start) duration
-timeAfter f o (Hold duration) = add binary64 (o .start) duration
+unfoldable pub timeAfter : Object → ℕ → Kind → Float
+timeAfter o span Circle = o .start
+timeAfter o span (Slider repeats distance node) = nodeTime o span (repeats + 1)
+timeAfter o span (Spinner duration) = add binary64 (o .start) duration
+timeAfter o span (Hold duration) = add binary64 (o .start) duration
 
 -- the previous position after an object: of a spinner or a hold the middle
 unfoldable pub positionAfter : Object → Kind → Position
@@ -122,20 +140,19 @@ positionAfter o (Slider repeats distance node) = o .position
 positionAfter o (Spinner duration) = record { x = single 256 1; y = single 192 1 }
 positionAfter o (Hold duration) = record { x = single 256 1; y = single 192 1 }
 
+-- the walk after an object that left a mask, a last column and a stair, and made so many notes
+unfoldable pub walkAfter : Facts → Object → Density → ℕ → ℕ → Stair → ℕ → Walk → Walk
+walkAfter f o d mask last stair count w =
+    let span = spanIn f o (o .kind) in
+    record {
+      prev = record { time = timeAfter o span (o .kind); position = positionAfter o (o .kind); mask = mask; last = last; stair = stair };
+      density = leaves o span (o .kind) d;
+      notes = w .notes + count;
+    }
+
 -- the walk after an object and what it made
 unfoldable pub afterObject : Facts → Object → Density → Made → Walk → Walk
-afterObject f o d made w =
-    record {
-      prev = record {
-        time = timeAfter f o (o .kind);
-        position = positionAfter o (o .kind);
-        mask = made .mask;
-        last = made .last;
-        stair = made .stair;
-      };
-      density = leaves f o (o .kind) d;
-      notes = w .notes + length (made .notes);
-    }
+afterObject f o d made w = walkAfter f o d (made .mask) (made .last) (made .stair) (length (made .notes)) w
 
 -- a refusal in a walk, and the object's index
 pub record AtObject : Type 0 where

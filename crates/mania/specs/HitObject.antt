@@ -86,18 +86,26 @@ new f v columns o =
 unfoldable pub addNote : HitObjectPatternGenerator → ℕ → Pattern Note → ObjectRule (Pattern Note)
 addNote g c p = add (g .columns) (circle c (g .start)) c p
 
+-- the mirror image of a column
+unfoldable pub image : ℕ → ℕ → ℕ
+image columns c = randomStart columns + columns - c - 1
+
+-- a note at column c, if the previous pattern has column i
+unfoldable pub addOne : HitObjectPatternGenerator → ℕ → ℕ → Pattern Note → ObjectRule (Pattern Note)
+addOne g i c p = if free (g .mask) i then give p else addNote g c p
+
 -- of the n columns from i on, a note for each that the previous pattern has, at the column `to` gives
 unfoldable pub addEach : HitObjectPatternGenerator → (ℕ → ℕ) → ℕ → ℕ → Pattern Note → ObjectRule (Pattern Note)
 addEach g to zero i p = give p
 addEach g to (suc n) i p = do
-  q ← (if free (g .mask) i then give p else addNote g (to i) p)
+  q ← addOne g i (to i) p
   addEach g to n (suc i) q
 
 -- the columns of the previous pattern, each turned round: `REVERSE`
 unfoldable pub reversed : HitObjectPatternGenerator → ObjectRule (Pattern Note)
 reversed g =
     let low = randomStart (g .columns) in
-    addEach g (λ i. low + g .columns - i - 1) (g .columns - low) low empty
+    addEach g (image (g .columns)) (g .columns - low) low empty
 
 -- the columns of the previous pattern: `FORCE_STACK`
 unfoldable pub stacked : HitObjectPatternGenerator → ObjectRule (Pattern Note)
@@ -201,14 +209,31 @@ mirroredChances columns m =
     else if eqb columns 6 then record { centre = double 0 1; p2 = halved (m .p2) (double 5 100); p3 = halved (m .p3) (double 85 100) }
     else m
 
--- n notes and their mirror images, each searched from the one before in the left half
+-- a note and its mirror image
+unfoldable pub addPair : HitObjectPatternGenerator → ℕ → Pattern Note → ObjectRule (Pattern Note)
+addPair g c p = do
+  q ← addNote g c p
+  addNote g (image (g .columns) c) q
+
+-- n pairs, each searched from the one before in the left half
 unfoldable pub addMirrored : HitObjectPatternGenerator → ℕ → ℕ → Pattern Note → ObjectRule (Pattern Note)
 addMirrored g zero c p = give p
 addMirrored g (suc n) c p = do
   d ← findAvailableColumn Draw (g .columns) c (randomStart (g .columns)) (g .columns / 2) (p .mask)
-  q ← addNote g d p
-  r ← addNote g (randomStart (g .columns) + g .columns - d - 1) q
-  addMirrored g n d r
+  q ← addPair g d p
+  addMirrored g n d q
+
+-- the note at the centre, if it comes
+unfoldable pub addCentre : HitObjectPatternGenerator → Bool → Pattern Note → ObjectRule (Pattern Note)
+addCentre g centre p = if centre then addNote g (g .columns / 2) p else give p
+
+-- the mirrored pattern once its count of pairs is drawn, and whether a note comes at the centre
+unfoldable pub mirrorFrom : HitObjectPatternGenerator → ℕ → Bool → ObjectRule (Pattern Note)
+mirrorFrom g n centre = do
+  c ← getRandomColumn (randomStart (g .columns)) (g .columns / 2)
+  p ← addMirrored g n c empty
+  q ← addCentre g centre p
+  addSpecial g q
 
 -- `add_to_centre`: an odd deck, not three notes, and a draw above 1 − centre
 unfoldable pub atCentre : ℕ → ℕ → Float → Float → Bool
@@ -221,26 +246,21 @@ mirrorNotes g chances = do
   let m = mirroredChances (g .columns) chances
   v ← value
   n ← getRandomNoteCount (clamped (double 0 1) (double 1 1) (m .p2)) (clamped (double 0 1) (double 1 1) (m .p3)) (double 0 1) (double 0 1) (double 0 1)
-  c ← getRandomColumn (randomStart (g .columns)) (g .columns / 2)
-  p ← addMirrored g n c empty
-  q ← (if atCentre (g .columns) n (m .centre) (unit v) then addNote g (g .columns / 2) p else give p)
-  addSpecial g q
+  mirrorFrom g n (atCentre (g .columns) n (m .centre) (unit v))
 
 -- x / 2
 unfoldable pub half : Float → Float
 half x = Ieee.div binary64 x (double 2 1)
 
+-- the chances of a random pattern in place of a mirrored one
+unfoldable pub unmirrored : Mirrored → Chances
+unmirrored m =
+    record { p2 = Ieee.add binary64 (half (double 1 1)) (half (m .p2)); p3 = m .p2; p4 = half (Ieee.add binary64 (m .p2) (m .p3)); p5 = m .p3 }
+
 -- `generate_random_pattern_with_mirrored`
 unfoldable pub generateRandomPatternWithMirrored : HitObjectPatternGenerator → Mirrored → ObjectRule (Pattern Note)
 generateRandomPatternWithMirrored g m =
-    if contains (g .flags) forceNotStack then
-    generateRandomPattern g
-    (record {
-      p2 = Ieee.add binary64 (half (double 1 1)) (half (m .p2));
-      p3 = m .p2;
-      p4 = half (Ieee.add binary64 (m .p2) (m .p3));
-      p5 = m .p3;
-    })
+    if contains (g .flags) forceNotStack then generateRandomPattern g (unmirrored m)
     else mirrorNotes g m
 
 -- ---- the branches in their order
@@ -280,7 +300,7 @@ unfoldable pub generateCore : HitObjectPatternGenerator → ObjectRule (Pattern 
 generateCore g =
     if eqb (g .columns) 1 then addNote g 0 empty
     else if contains (g .flags) reverse && some g then reversed g
-    else if cycles g then addNote g (randomStart (g .columns) + g .columns - g .last - 1) empty
+    else if cycles g then addNote g (image (g .columns) (g .last)) empty
     else if contains (g .flags) forceStack && some g then stacked g
     else if alone g && contains (g .flags) stair then addNote g (stairColumn g) empty
     else if alone g && contains (g .flags) reverseStair then addNote g (reverseStairColumn g) empty

@@ -111,16 +111,18 @@ orTenThousand (pos (suc n)) = pos (suc n)
 orTenThousand (negsuc n) = negsuc n
 
 -- `drain_time`: from the first start to the last, less the breaks, in seconds cut toward zero; breaks can make it negative
-unfoldable pub drainTime : List BreakPeriod → List Object → ℤ
-drainTime breaks objects =
-    let first = firstStart objects in
-    let last = lastStart (double 0 1) objects in
-    orTenThousand (whole Cut (div binary64 (sub binary64 (sub binary64 last first) (breakTime (double 0 1) breaks)) (double 1000 1)))
+unfoldable pub drainTime : Float → Float → Float → ℤ
+drainTime breaks first last = orTenThousand (whole Cut (div binary64 (sub binary64 (sub binary64 last first) breaks) (double 1000 1)))
 
--- `conversion_difficulty`: hp and ar, and objects per second, at most 12
-unfoldable pub conversionDifficulty : Settings → List BreakPeriod → List Object → Float
-conversionDifficulty s breaks objects =
+-- hp and ar, and objects per second, at most 12
+unfoldable pub difficultyOf : Settings → Float → Float → Float → ℕ → Float
+difficultyOf s breaks first last objects =
     let life = div binary64 (add binary32 (s .hp) (clamped (single 4 1) (single 7 1) (s .ar))) (double 3 2) in
-    let pace = mul binary64 (div binary64 (double# (length objects)) (ofInt binary64 (drainTime breaks objects))) (double 9 1) in
+    let pace = mul binary64 (div binary64 (double# objects) (ofInt binary64 (drainTime breaks first last))) (double 9 1) in
     let both = add binary64 life pace in
     least (div binary64 (mul binary64 (div binary64 both (double 38 1)) (double 5 1)) (double 115 100)) (double 12 1)
+
+-- `conversion_difficulty`: by the total break time, the first and the last start, and the number of objects
+unfoldable pub conversionDifficulty : Settings → List BreakPeriod → List Object → Float
+conversionDifficulty s breaks objects =
+    difficultyOf s (breakTime (double 0 1) breaks) (firstStart objects) (lastStart (double 0 1) objects) (length objects)

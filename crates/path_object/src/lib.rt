@@ -13,7 +13,7 @@ ghost use Rattle.pattern.specs.Answers.{Generates};
 ghost use Rattle.slider_notes.specs.Words.{noteOfWord};
 ghost use Rattle.slider_notes.specs.Answers.{Places};
 ghost use Rattle.slider_patterns.specs.Parts.{Fits};
-ghost use Rattle.path_object.specs.Parts.{Ready, longSpans};
+ghost use Rattle.path_object.specs.Parts.{Ready};
 use mania::PathObjectPatternGenerator;
 use pattern::ObjectEnd;
 use pattern::Pattern;
@@ -45,32 +45,6 @@ fn tile_limit(columns: u8) -> u32
     (columns - 1 - start) as u32
 }
 
-// The last three branches of more than one span.
-fn long_spans(d: Draws, g: PathObjectPatternGenerator, words: &mut [u64]) -> Placed
-    requires { ⌜ Fits g (length (now words)) × (160 < g .length) × (g .length * g .spans ≤ g .end - g .start) ⌝ }
-    ensures { λ r. ⌜ Places (now (words .exit)) (on (longSpans g) d) 2050 r ⌝ }
-{
-    let lasts = lasting(g.start, g.end);
-    let limit = tile_limit(g.columns);
-    if 4000 <= lasts {
-        return slider_patterns::generate_n_random_notes(
-            d,
-            g,
-            words,
-            Chance {
-                p2: 0.23,
-                p3: 0.0,
-                p4: 0.0,
-            },
-        );
-    }
-    let tiled = (400 < g.length) & (g.spans < limit);
-    if tiled {
-        return slider_patterns::generate_tiled_hold_notes(d, g, words);
-    }
-    slider_patterns::generate_hold_and_normal_notes(d, g, words)
-}
-
 // `generate_` with more than one span.
 pub fn generate_spans(d: Draws, g: PathObjectPatternGenerator, words: &mut [u64]) -> Placed
     requires { ⌜ Fits g (length (now words)) × (g .length * g .spans ≤ g .end - g .start) ⌝ }
@@ -82,13 +56,8 @@ pub fn generate_spans(d: Draws, g: PathObjectPatternGenerator, words: &mut [u64]
         return slider_patterns::generate_random_hold_notes(d, g, words, 1);
     }
     if span <= 120 {
-        return slider_patterns::generate_random_notes(
-            d,
-            g,
-            words,
-            g.flags | pattern::FORCE_NOT_STACK,
-            g.spans + 1,
-        );
+        let flags = g.flags | pattern::FORCE_NOT_STACK;
+        return slider_patterns::generate_random_notes(d, g, words, flags, g.spans + 1);
     }
     if span <= 160 {
         return slider_patterns::generate_stair(d, g, words);
@@ -97,7 +66,21 @@ pub fn generate_spans(d: Draws, g: PathObjectPatternGenerator, words: &mut [u64]
     if fast {
         return slider_patterns::generate_random_multiple_notes(d, g, words);
     }
-    long_spans(d, g, words)
+    let lasts = lasting(g.start, g.end);
+    if 4000 <= lasts {
+        let chance = Chance {
+            p2: 0.23,
+            p3: 0.0,
+            p4: 0.0,
+        };
+        return slider_patterns::generate_n_random_notes(d, g, words, chance);
+    }
+    let limit = tile_limit(g.columns);
+    let tiled = (400 < span) & (g.spans < limit);
+    if tiled {
+        return slider_patterns::generate_tiled_hold_notes(d, g, words);
+    }
+    slider_patterns::generate_hold_and_normal_notes(d, g, words)
 }
 
 // The flags of one short span: `FORCE_NOT_STACK` unless the previous pattern fills the deck.

@@ -25,11 +25,9 @@ use Rattle.model.specs.declared.BreakPeriod.{BreakPeriod}
 use Rattle.model.specs.declared.Object.{Object}
 use Rattle.floats.specs.Least.{least, clamped}
 use Rattle.mania.specs.Steps.{single, double, double#}
-use Rattle.mania.specs.PatternGenerator.{orTenThousand, conversionDifficulty}
-use Rattle.model.specs.Totals.{breakTime, firstStart, lastStart}
-use Rattle.settings.specs.Counts.{drainOf, difficultyOf}
+use Rattle.mania.specs.PatternGenerator.{orTenThousand, drainTime, difficultyOf, conversionDifficulty}
 use Rattle.settings.specs.Accepted.{Accepted}
-use Rattle.settings.specs.Laws.{difficulty-of, at-most-ten}
+use Rattle.settings.specs.Laws.{at-most-ten}
 
 -- finite, and of a size of at most n
 pub record Small (n : ℕ) (x : Float) : Type 0 where
@@ -248,7 +246,7 @@ least-twelve x f = pick (lt (double 12 1) x) refl
 
 -- a record has at most 4,095 objects
 pub difficulty-twelve : (s : Settings) (breaks first last : Float) (objects : ℕ) → Accepted s → objects ≤ 4095 → Twelve (difficultyOf s breaks first last objects)
-unfolding difficultyOf drainOf
+unfolding difficultyOf drainTime
 difficulty-twelve s breaks first last objects a h =
     let hp = small-of 10 (s .hp) (at-most-ten (s .hp) (a .hp)) in
     let ar = small-clamped (s .ar) (small-of 10 (s .ar) (at-most-ten (s .ar) (a .ar))) in
@@ -263,5 +261,5 @@ difficulty-twelve s breaks first last objects a h =
     more k = record { real = k .real; most = le-trans (k .most) (mul-le-mul-right (den (double# objects)) h) }
 
 pub conversion-twelve : (s : Settings) (breaks : List BreakPeriod) (os : List Object) → Accepted s → length os ≤ 4095 → Twelve (conversionDifficulty s breaks os)
-conversion-twelve s breaks os a h =
-    subst Twelve (difficulty-of s breaks os) (difficulty-twelve s (breakTime (double 0 1) breaks) (firstStart os) (lastStart (double 0 1) os) (length os) a h)
+unfolding conversionDifficulty
+conversion-twelve s breaks os a h = difficulty-twelve s _ _ _ _ a h

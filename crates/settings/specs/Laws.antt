@@ -1,18 +1,14 @@
--- What callers cite: the counts' definitions are those of the rules, the columns are 1 to 9, and the parts of an accepted record's seed are small.
--- Assumes nothing.
+-- What callers cite: cs counts only by whether it is 5 or more, and the parts of an accepted record's seed are small. Assumes nothing.
 use mathlib.Core.Path.{_≡_, refl, sym, _∙_}
-use Prim.Native.Nat.{ℕ, zero, suc, _+_, _*_, _^_, _≤_, _<_}
+use Prim.Native.Nat.{ℕ, _+_, _*_, _^_, _≤_, _<_}
 use native.Mathlib.Nat.{le-trans, le-of-eq, lt-of-le-of-lt, mul-one, mul-pos, mul-le-mul-right}
 use native.Mathlib.Omega.{arith}
-use mathlib.Core.Bool.{Bool, true, false, _||_}
-use mathlib.Core.List.{List, [], _∷_}
+use mathlib.Core.Bool.{Bool, true, false}
 use mathlib.Core.Logic.{_⊎_, inl, inr}
-use borrow.Author.Tests.{ne-eqb, leb-true, leb-false, le-leb, lt-leb}
-use lib.Dec.{T, eqb, leb, ltb, lit≤}
-use lib.Ieee.{Float, binary32, binary64, ofInt, round, add, mul, div, lt}
+use borrow.Author.Tests.{leb-true, leb-false, le-leb, lt-leb}
+use lib.Dec.{T, leb, lit≤}
+use lib.Ieee.{Float, binary32, ofInt, round, add, mul}
 use lib.Ieee.Positive.{num, den, den-pos}
-use lib.ListN.{length}
-use Rattle.rules.specs.Rule.{if_then_else_}
 use Rattle.floats.specs.Whole.{count}
 use Rattle.floats.specs.Range.{inRange}
 use Rattle.floats.specs.Laws.Values.{Sized, UpTo, add-value, round-at-most}
@@ -20,72 +16,9 @@ use Rattle.floats.specs.Laws.Ranges.{in-sized, in-high}
 use Rattle.floats.specs.Laws.Wholes.{count-le, count-lt}
 use Rattle.floats.specs.declared.Way.the-variants.{Cut, Even}
 use Rattle.model.specs.declared.Settings.{Settings}
-use Rattle.model.specs.declared.BreakPeriod.{BreakPeriod}
-use Rattle.model.specs.declared.Object.{Object}
-use Rattle.mania.specs.Steps.{single, single#, double, double#}
-use Rattle.model.specs.Song.{Song}
-use Rattle.mania.specs.Convert.{columnsByOd, columnsByShare, targetColumns, columnsOf}
-use Rattle.model.specs.Totals.{slidersAndSpinners}
-use Rattle.mania.specs.PatternGenerator.{drainTime, conversionDifficulty}
-use Rattle.model.specs.Totals.{breakTime, firstStart, lastStart}
-use Rattle.settings.specs.Counts.{columnsAt, columnsBy, keysOr, drainOf, difficultyOf}
+use Rattle.mania.specs.Steps.{single, single#}
+use Rattle.mania.specs.Convert.{columnsByShare, columnsAt}
 use Rattle.settings.specs.Accepted.{Accepted}
-
--- ---- counts in place of lists
-
-some : (n : ℕ) → eqb (suc n) 0 ≡ false
-some n = ne-eqb (suc n) 0 (λ (e : suc n ≡ 0). omega arith)
-
-pub columns-by : (s : Settings) (os : List Object) → columnsBy s (slidersAndSpinners os) (length os) ≡ targetColumns s os
-unfolding columnsBy targetColumns
-columns-by s [] = refl
-columns-by s (o ∷ os) = rw (some (length os))
-
-pub columns-of : (s : Song) → keysOr (s .keys) (columnsBy (s .settings) (slidersAndSpinners (s .objects)) (length (s .objects))) ≡ columnsOf s
-unfolding keysOr columnsOf
-columns-of s = rw (columns-by (s .settings) (s .objects))
-
-pub difficulty-of : (s : Settings) (breaks : List BreakPeriod) (os : List Object)
-    → difficultyOf s (breakTime (double 0 1) breaks) (firstStart os) (lastStart (double 0 1) os) (length os) ≡ conversionDifficulty s breaks os
-unfolding difficultyOf drainOf conversionDifficulty drainTime
-difficulty-of s breaks os = refl
-
--- ---- the columns are 1 to 9
-
-abbrev Deck : ℕ → Type 0
-Deck n = (1 ≤ n) × (n ≤ 9)
-
-pick : (b : Bool) (m n : ℕ) → Deck m → Deck n → Deck (if b then m else n)
-pick true m n h k = h
-pick false m n h k = k
-
-od-deck : (od : ℕ) → Deck (columnsByOd od)
-unfolding columnsByOd
-od-deck od = (omega arith, omega arith)
-
-abbrev few : Bool → ℕ
-few b = if b then 7 else 6
-
-abbrev many : Bool → ℕ
-many b = if b then 5 else 4
-
-share-deck : (share : Float) (cs od : ℕ) → Deck (columnsByShare share cs od)
-unfolding columnsByShare
-share-deck share cs od =
-    pick (lt share (double 2 10)) 7 _ (lit≤ tt, lit≤ tt)
-    (pick (lt share (double 3 10) || leb 5 cs) (few (ltb 5 od)) _ (pick (ltb 5 od) 7 6 (lit≤ tt, lit≤ tt) (lit≤ tt, lit≤ tt))
-    (pick (lt (double 6 10) share) (many (ltb 4 od)) _ (pick (ltb 4 od) 5 4 (lit≤ tt, lit≤ tt) (lit≤ tt, lit≤ tt)) (od-deck od)))
-
-pub at-deck : (long objects cs od : ℕ) → Deck (columnsAt long objects cs od)
-unfolding columnsAt
-at-deck long objects cs od =
-    pick (eqb objects 0) (columnsByOd od) _ (od-deck od) (share-deck (div binary64 (double# long) (double# objects)) cs od)
-
--- the key choice of an accepted record is at most 9
-pub columns-deck : (key : ℕ) (s : Settings) (long objects : ℕ) → key ≤ 9 → Deck (keysOr key (columnsBy s long objects))
-unfolding keysOr columnsBy
-columns-deck zero s long objects h = at-deck long objects (count Even (s .cs)) (count Even (s .od))
-columns-deck (suc k) s long objects h = rw (some k) (omega arith, h)
 
 -- ---- cs counts only by whether it is 5 or more
 

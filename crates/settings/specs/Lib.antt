@@ -1,6 +1,4 @@
--- The column count and the conversion difficulty by numbers that a walk over the record finds, and the settings of an accepted record. `Laws` is for
--- callers.
-pub mod Counts
+-- The settings of an accepted record (`Accepted`), and laws for callers.
 pub mod Accepted
 pub mod Laws
 pub mod Difficulty

@@ -3,9 +3,8 @@ ghost use mathlib.Core.Path.{_≡_};
 ghost use lib.Dec.{ltb};
 ghost use Rattle.rules.specs.Rule.{if_then_else_};
 ghost use Rattle.mania.specs.Convert as Convert;
-ghost use Rattle.mania.specs.Convert.{columnsByOd, columnsByShare};
-ghost use Rattle.mania.specs.PatternGenerator.{orTenThousand};
-ghost use Rattle.settings.specs.Counts.{columnsAt, columnsBy, keysOr, drainOf, difficultyOf};
+ghost use Rattle.mania.specs.Convert.{columnsByOd, columnsByShare, columnsAt, columnsBy, keysOr};
+ghost use Rattle.mania.specs.PatternGenerator.{orTenThousand, drainTime, difficultyOf};
 ghost use Rattle.settings.specs.Accepted.{Accepted};
 use floats::Way;
 use model::Settings;
@@ -99,7 +98,7 @@ fn or_ten_thousand(n: i32) -> i32
 
 // `drain_time`, from the total break time and the starts of the first and the last object.
 fn drain_time(breaks: f64, first: f64, last: f64) -> i32
-    ensures { λ r. ⌜ r ≡ drainOf breaks first last ⌝ }
+    ensures { λ r. ⌜ r ≡ drainTime breaks first last ⌝ }
 {
     or_ten_thousand(floats::to_whole((last - first - breaks) / 1000.0, Way::Cut))
 }

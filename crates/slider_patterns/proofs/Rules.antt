@@ -5,7 +5,7 @@ use mathlib.Core.Bool.{Bool, true, false, not, _&&_}
 use lib.Count.{ones}
 use lib.Dec.{ltb}
 use lib.Ieee.{Float, lt}
-use Rattle.rules.specs.Rule.{if_then_else_}
+use Rattle.rules.specs.Rule.{if_then_else_, _>>=_}
 use Rattle.rules.specs.Refusal.{ObjectRule}
 use Rattle.random.specs.Generator.{between, unit}
 use Rattle.random.specs.Play.{found, refused, play, on, value}
@@ -15,7 +15,7 @@ use Rattle.mania.specs.declared.SliderNote.{SliderNote}
 use Rattle.mania.specs.declared.PathObjectPatternGenerator.{PathObjectPatternGenerator}
 use Rattle.mania.specs.declared.Next.the-variants.{Draw}
 use Rattle.mania.specs.Steps.{double}
-use Rattle.model.specs.Sound.{hasFlag}
+use Rattle.model.specs.Sound.{whistle, finish, clap, hasFlag}
 use Rattle.mania.specs.Pattern.{Pattern, empty, put}
 use Rattle.mania.specs.PatternType.{contains}
 use Rattle.mania.specs.PatternGenerator.{randomStart, getColumn, getRandomColumn, getRandomNoteCount, noteCount, findAvailableColumn}
@@ -23,7 +23,6 @@ use Rattle.mania.specs.PathObject.{Chances, anyColumn, findColumn, headColumn, 
 use Rattle.mania.specs.PathObject.{generateRandomMultipleNotes, capped, twoNotes, generateNRandomNotes, addTiles, generateTiledHoldNotes, addBesides, besideCount, generateHoldAndNormalNotes}
 use Rattle.slider_notes.specs.Words.{sliderNote}
 use Rattle.slider_notes.proofs.Words.{add-on}
-use Rattle.slider_patterns.specs.Parts.{moreHolds, holdsFrom, besidesFrom, circlesFrom}
 
 -- ---- counts and columns
 
@@ -47,38 +46,31 @@ module _ (g : PathObjectPatternGenerator) (flags : ℕ) (d : Draws) (own : ℕ) 
   unfolding headColumn play
   head-own t = rw (← m, t, o)
 
--- ---- holds
-
-module _ (g : PathObjectPatternGenerator) (n c : ℕ) (d : Draws) where
-  pub more-found : (s : Pattern SliderNote) (e : ℕ) (t : Pattern SliderNote) (f : Draws) → on (addHolds g 0 n c s) d ≡ found (e, t) f → on (moreHolds g n c s) d ≡ found t f
-  unfolding moreHolds play
-  more-found s e t f h = found-bind (addHolds g 0 n c s) _ _ _ _ h
-
-  pub more-stop : (s : Pattern SliderNote) (x : ℕ) (f : Draws) → on (addHolds g 0 n c s) d ≡ refused x f → on (moreHolds g n c s) d ≡ refused x f
-  unfolding moreHolds
-  more-stop s x f h = refused-bind (addHolds g 0 n c s) _ _ _ _ h
-
-  module _ (s : Pattern SliderNote) (b : s ≡ empty) (off over : ℕ) (i : off ≡ min (g .columns - randomStart (g .columns) - ones (g .mask)) n)
-      (j : over ≡ n + ones (g .mask) - (g .columns - randomStart (g .columns))) where
-    pub from-found : (e : ℕ) (t : Pattern SliderNote) (f : Draws) → on (addHolds g (g .mask) off c s) d ≡ found (e, t) f → on (holdsFrom g n c) d ≡ on (moreHolds g over e t) f
-    unfolding holdsFrom
-    from-found e t f h = found-bind _ _ _ _ _ (rw (i, b) at h) ∙ rw j
-
-    pub from-stop : (x : ℕ) (f : Draws) → on (addHolds g (g .mask) off c s) d ≡ refused x f → on (holdsFrom g n c) d ≡ refused x f
-    unfolding holdsFrom
-    from-stop x f h = refused-bind _ _ _ _ _ (rw (i, b) at h)
-
 module _ (g : PathObjectPatternGenerator) (d : Draws) where
   abbrev drawn : ObjectRule ℕ
   drawn = getRandomColumn (randomStart (g .columns)) (g .columns)
 
-  pub holds-found : (n c : ℕ) (e : Draws) → on drawn d ≡ found c e → on (generateRandomHoldNotes g n) d ≡ on (holdsFrom g n c) e
-  unfolding generateRandomHoldNotes holdsFrom moreHolds anyColumn
-  holds-found n c e h = found-bind drawn _ _ _ _ h
+  -- ---- holds
 
   pub holds-stop : (n x : ℕ) (e : Draws) → on drawn d ≡ refused x e → on (generateRandomHoldNotes g n) d ≡ refused x e
   unfolding generateRandomHoldNotes anyColumn
   holds-stop n x e h = refused-bind drawn _ _ _ _ h
+
+  -- those off the previous pattern, and those that come anywhere
+  module _ (n c : ℕ) (e : Draws) (h : on drawn d ≡ found c e) (s : Pattern SliderNote) (b : s ≡ empty) (off over : ℕ)
+      (i : off ≡ min (g .columns - randomStart (g .columns) - ones (g .mask)) n) (j : over ≡ n + ones (g .mask) - (g .columns - randomStart (g .columns))) where
+    pub off-stop : (x : ℕ) (f : Draws) → on (addHolds g (g .mask) off c s) e ≡ refused x f → on (generateRandomHoldNotes g n) d ≡ refused x f
+    unfolding generateRandomHoldNotes anyColumn
+    off-stop x f k = found-bind drawn _ _ _ _ h ∙ refused-bind _ _ _ _ _ (rw (i, b) at k)
+
+    module _ (m : ℕ) (t : Pattern SliderNote) (f : Draws) (k : on (addHolds g (g .mask) off c s) e ≡ found (m, t) f) where
+      pub over-stop : (x : ℕ) (l : Draws) → on (addHolds g 0 over m t) f ≡ refused x l → on (generateRandomHoldNotes g n) d ≡ refused x l
+      unfolding generateRandomHoldNotes anyColumn
+      over-stop x l z = found-bind drawn _ _ _ _ h ∙ found-bind _ _ _ _ _ (rw (i, b) at k) ∙ refused-bind _ _ _ _ _ (rw j at z)
+
+      pub holds-found : (y : ℕ) (u : Pattern SliderNote) (l : Draws) → on (addHolds g 0 over m t) f ≡ found (y, u) l → on (generateRandomHoldNotes g n) d ≡ found u l
+      unfolding generateRandomHoldNotes anyColumn play
+      holds-found y u l z = found-bind drawn _ _ _ _ h ∙ found-bind _ _ _ _ _ (rw (i, b) at k) ∙ found-bind _ _ _ _ _ (rw j at z)
 
   -- ---- rows and stairs
 
@@ -137,30 +129,32 @@ module _ (g : PathObjectPatternGenerator) (d : Draws) where
 
   -- ---- a hold with circles
 
-  pub besides-found : (hold c : ℕ) (p : Pattern SliderNote) (n : ℕ) (e : Draws) (bare : Bool) (k : ℕ) → bare ≡ not (hasFlag (g .head) 14) → k ≡ min n (g .columns - 1)
-      → on (besideCount g) d ≡ found n e → on (besidesFrom g hold c p) d ≡ on (addBesides g hold bare k (g .spans + 1) (g .start) c p) e
-  unfolding besidesFrom
-  besides-found hold c p n e bare k i j h = found-bind (besideCount g) _ _ _ _ h ∙ rw (i, j)
-
-  pub besides-stop : (hold c : ℕ) (p : Pattern SliderNote) (x : ℕ) (e : Draws) → on (besideCount g) d ≡ refused x e → on (besidesFrom g hold c p) d ≡ refused x e
-  unfolding besidesFrom
-  besides-stop hold c p x e h = refused-bind (besideCount g) _ _ _ _ h
-
-  pub circles-found : (hold : ℕ) (p : Pattern SliderNote) (c : ℕ) (e : Draws) → on drawn d ≡ found c e → on (circlesFrom g hold p) d ≡ on (besidesFrom g hold c p) e
-  unfolding circlesFrom anyColumn
-  circles-found hold p c e h = found-bind drawn _ _ _ _ h
-
-  pub circles-stop : (hold : ℕ) (p : Pattern SliderNote) (x : ℕ) (e : Draws) → on drawn d ≡ refused x e → on (circlesFrom g hold p) d ≡ refused x e
-  unfolding circlesFrom anyColumn
-  circles-stop hold p x e h = refused-bind drawn _ _ _ _ h
-
-  pub normal-found : (hold : ℕ) (e : Draws) → on (headColumn g (g .flags)) d ≡ found hold e → hold < g .columns
-      → (s t : Pattern SliderNote) → s ≡ empty → t ≡ put (sliderNote hold (g .start) (g .end)) hold s
-      → on (generateHoldAndNormalNotes g) d ≡ on (circlesFrom g hold t) e
-  unfolding generateHoldAndNormalNotes circlesFrom besidesFrom
-  normal-found hold e h deck s t b w =
-      found-bind (headColumn g (g .flags)) _ _ _ _ h ∙ found-bind _ _ _ _ _ (add-on g hold (g .start) (g .end) empty e deck) ∙ rw (w, b)
-
   pub normal-stop : (x : ℕ) (e : Draws) → on (headColumn g (g .flags)) d ≡ refused x e → on (generateHoldAndNormalNotes g) d ≡ refused x e
   unfolding generateHoldAndNormalNotes
   normal-stop x e h = refused-bind (headColumn g (g .flags)) _ _ _ _ h
+
+module _ (g : PathObjectPatternGenerator) (d : Draws) (hold : ℕ) (e : Draws) (h : on (headColumn g (g .flags)) d ≡ found hold e) (deck : hold < g .columns)
+    (s p : Pattern SliderNote) (b : s ≡ empty) (w : p ≡ put (sliderNote hold (g .start) (g .end)) hold s) where
+  abbrev circles : Pattern SliderNote → ObjectRule (Pattern SliderNote)
+  circles q =
+      anyColumn g
+      >>= (λ c. besideCount g
+      >>= (λ n. addBesides g hold (not (hasFlag (g .head) (whistle + finish + clap))) (min n (g .columns - 1)) (g .spans + 1) (g .start) c q))
+
+  after-hold : on (generateHoldAndNormalNotes g) d ≡ on (circles p) e
+  unfolding generateHoldAndNormalNotes
+  after-hold = found-bind (headColumn g (g .flags)) _ _ _ _ h ∙ found-bind _ _ _ _ _ (add-on g hold (g .start) (g .end) empty e deck) ∙ rw (w, b)
+
+  pub column-stop : (x : ℕ) (f : Draws) → on (drawn g e) e ≡ refused x f → on (generateHoldAndNormalNotes g) d ≡ refused x f
+  unfolding anyColumn
+  column-stop x f k = after-hold ∙ refused-bind (drawn g e) _ _ _ _ k
+
+  module _ (c : ℕ) (f : Draws) (k : on (drawn g e) e ≡ found c f) where
+    pub count-stop : (x : ℕ) (l : Draws) → on (besideCount g) f ≡ refused x l → on (generateHoldAndNormalNotes g) d ≡ refused x l
+    unfolding anyColumn
+    count-stop x l z = after-hold ∙ found-bind (drawn g e) _ _ _ _ k ∙ refused-bind (besideCount g) _ _ _ _ z
+
+    pub normal-found : (n : ℕ) (l : Draws) (bare : Bool) (many : ℕ) → bare ≡ not (hasFlag (g .head) 14) → many ≡ min n (g .columns - 1) → on (besideCount g) f ≡ found n l
+        → on (generateHoldAndNormalNotes g) d ≡ on (addBesides g hold bare many (g .spans + 1) (g .start) c p) l
+    unfolding anyColumn
+    normal-found n l bare many i j z = after-hold ∙ found-bind (drawn g e) _ _ _ _ k ∙ found-bind (besideCount g) _ _ _ _ z ∙ rw (i, j)

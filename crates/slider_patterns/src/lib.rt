@@ -12,11 +12,10 @@ ghost use Rattle.random.specs.Play.{on};
 ghost use Rattle.mania.specs.Steps.{double};
 ghost use Rattle.mania.specs.PatternGenerator.{randomStart};
 ghost use Rattle.mania.specs.PathObject as Path;
-ghost use Rattle.pattern.specs.Answers.{number, pattern};
+ghost use Rattle.pattern.specs.Answers.{number};
 ghost use Rattle.slider_times.specs.Chances.{chances};
-ghost use Rattle.slider_notes.specs.Words.{ofWord};
 ghost use Rattle.slider_notes.specs.Answers.{Places};
-ghost use Rattle.slider_patterns.specs.Parts.{Fits, moreHolds, holdsFrom, besidesFrom, circlesFrom};
+ghost use Rattle.slider_patterns.specs.Parts.{Fits};
 use mania::PathObjectPatternGenerator;
 use model::sound;
 use pattern::Number;
@@ -25,6 +24,9 @@ use pattern::Placed;
 use random::Drawn;
 use random::Draws;
 use slider_notes::Reached;
+use slider_notes::add_besides;
+use slider_notes::add_holds;
+use slider_notes::any_column;
 use slider_times::Chance;
 
 // Whether a slider's own column moves off the previous pattern.
@@ -76,42 +78,6 @@ fn holds_over(columns: u8, mask: u16, n: u32) -> u32
     all - (deck as u32)
 }
 
-// The holds that come anywhere.
-fn more_holds(
-    d: Draws,
-    g: PathObjectPatternGenerator,
-    words: &mut [u64],
-    n: u32,
-    c: u8,
-    p: Pattern,
-) -> Placed
-    requires { ⌜ Fits g (length (now words)) × (n ≤ 22) × (c < g .columns) × (p .count ≤ 6) ⌝ }
-    ensures { λ r. ⌜ Places (now (words .exit)) (on (moreHolds g n c (pattern ofWord (now (words .entry)) p)) d) 2050 r ⌝ }
-{
-    match slider_notes::add_holds(d, g, words, 0, n, c, p) {
-        Reached::Notes(_, q, next) => Placed::Notes(q, next),
-        Reached::Refused(x, next) => Placed::Refused(x, next),
-    }
-}
-
-// All holds, from a first column.
-fn holds_from(d: Draws, g: PathObjectPatternGenerator, words: &mut [u64], n: u32, c: u8) -> Placed
-    requires { ⌜ Fits g (length (now words)) × (n ≤ 6) × (c < g .columns) ⌝ }
-    ensures { λ r. ⌜ Places (now (words .exit)) (on (holdsFrom g n c) d) 2050 r ⌝ }
-{
-    let off = holds_off(g.columns, g.mask, n);
-    let over = holds_over(g.columns, g.mask, n);
-    let blank = Pattern {
-        mask: 0,
-        last: 0,
-        count: 0,
-    };
-    match slider_notes::add_holds(d, g, words, g.mask, off, c, blank) {
-        Reached::Notes(e, p, next) => more_holds(next, g, words, over, e, p),
-        Reached::Refused(x, next) => Placed::Refused(x, next),
-    }
-}
-
 // `generate_random_hold_notes`
 pub fn generate_random_hold_notes(
     d: Draws,
@@ -122,8 +88,25 @@ pub fn generate_random_hold_notes(
     requires { ⌜ Fits g (length (now words)) × (n ≤ 6) ⌝ }
     ensures { λ r. ⌜ Places (now (words .exit)) (on (Path.generateRandomHoldNotes g n) d) 2050 r ⌝ }
 {
-    match slider_notes::any_column(d, g.columns) {
-        Number::Given(c, next) => holds_from(next, g, words, n, c),
+    let off = holds_off(g.columns, g.mask, n);
+    let over = holds_over(g.columns, g.mask, n);
+    let blank = Pattern {
+        mask: 0,
+        last: 0,
+        count: 0,
+    };
+    match any_column(d, g.columns) {
+        Number::Given(c, next) => {
+            match add_holds(next, g, words, g.mask, off, c, blank) {
+                Reached::Notes(e, p, after) => {
+                    match add_holds(after, g, words, 0, over, e, p) {
+                        Reached::Notes(_, q, end) => Placed::Notes(q, end),
+                        Reached::Refused(x, end) => Placed::Refused(x, end),
+                    }
+                }
+                Reached::Refused(x, after) => Placed::Refused(x, after),
+            }
+        }
         Number::Refused(x, next) => Placed::Refused(x, next),
     }
 }
@@ -289,45 +272,6 @@ fn beside_count(d: Draws, g: PathObjectPatternGenerator) -> Number
     Number::Given(0, d)
 }
 
-// The circles beside a hold, from a first column.
-fn besides_from(
-    d: Draws,
-    g: PathObjectPatternGenerator,
-    words: &mut [u64],
-    hold: u8,
-    c: u8,
-    p: Pattern,
-) -> Placed
-    requires { ⌜ Fits g (length (now words)) × (hold < 9) × (c < g .columns) × (p .count ≤ 1) × (g .spans ≤ 340) ⌝ }
-    ensures { λ r. ⌜ Places (now (words .exit)) (on (besidesFrom g hold c (pattern ofWord (now (words .entry)) p)) d) 2050 r ⌝ }
-{
-    let bare = !sound::has_flag(g.head, sound::WHISTLE | sound::FINISH | sound::CLAP);
-    match beside_count(d, g) {
-        Number::Given(n, next) => {
-            let k = least(n as u32, (g.columns - 1) as u32);
-            slider_notes::add_besides(next, g, words, hold, bare, k, g.spans + 1, g.start, c, p)
-        }
-        Number::Refused(x, next) => Placed::Refused(x, next),
-    }
-}
-
-// The circles beside a hold.
-fn circles_from(
-    d: Draws,
-    g: PathObjectPatternGenerator,
-    words: &mut [u64],
-    hold: u8,
-    p: Pattern,
-) -> Placed
-    requires { ⌜ Fits g (length (now words)) × (hold < 9) × (p .count ≤ 1) × (g .spans ≤ 340) ⌝ }
-    ensures { λ r. ⌜ Places (now (words .exit)) (on (circlesFrom g hold (pattern ofWord (now (words .entry)) p)) d) 2050 r ⌝ }
-{
-    match slider_notes::any_column(d, g.columns) {
-        Number::Given(c, next) => besides_from(next, g, words, hold, c, p),
-        Number::Refused(x, next) => Placed::Refused(x, next),
-    }
-}
-
 // `generate_hold_and_normal_notes`
 pub fn generate_hold_and_normal_notes(
     d: Draws,
@@ -342,10 +286,23 @@ pub fn generate_hold_and_normal_notes(
         last: 0,
         count: 0,
     };
+    let rows = g.spans + 1;
+    let bare = !sound::has_flag(g.head, sound::WHISTLE | sound::FINISH | sound::CLAP);
     match head_column(d, g, g.flags) {
         Number::Given(hold, next) => {
             let p = slider_notes::put_slider_note(words, blank, hold, g.start, g.end);
-            circles_from(next, g, words, hold, p)
+            match any_column(next, g.columns) {
+                Number::Given(c, after) => {
+                    match beside_count(after, g) {
+                        Number::Given(n, end) => {
+                            let k = least(n as u32, (g.columns - 1) as u32);
+                            add_besides(end, g, words, hold, bare, k, rows, g.start, c, p)
+                        }
+                        Number::Refused(x, end) => Placed::Refused(x, end),
+                    }
+                }
+                Number::Refused(x, after) => Placed::Refused(x, after),
+            }
         }
         Number::Refused(x, next) => Placed::Refused(x, next),
     }

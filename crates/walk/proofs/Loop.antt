@@ -28,7 +28,7 @@ use Rattle.mania.specs.declared.Facts.{Facts}
 use Rattle.mania.specs.LimitedQueue as Queue
 use Rattle.mania.specs.Object.{object}
 use Rattle.mania.specs.Chart.{body, patternOf, inWalkOrder}
-use Rattle.mania.specs.Convert.{factsAt, afterObject, beginning}
+use Rattle.mania.specs.Convert.{factsAt, walkAfter, afterObject, beginning}
 use Rattle.mania.specs.Convert as Convert
 use Rattle.mania.specs.Walked.{Stop, stop, onWalk}
 use Rattle.mania.specs.Range.{InRange}
@@ -142,7 +142,7 @@ module _ (bytes part entry : List ℕ) (g : Song) (start count : ℕ) (d : Draws
 
       pub at-next : (exit : List ℕ) (x : Walk) (next : ℕ) (e : Draws) → length chart ≡ length entry → Next chart exit g c w o rest x e
           → next ≡ objectEnd part here → next ≤ here + longest → At bytes part entry exit g start count d x next e (i + 1)
-      unfolding walkOf afterObject
+      unfolding walkOf walkAfter afterObject
       at-next exit x next e z k at far =
           let ns = k .made .notes in
           let room : ltb (length entry) (8 + 17 * (w .notes + length ns)) ≡ false = subst (λ (f : ℕ). ltb f (8 + 17 * (w .notes + length ns)) ≡ false) z (k .room) in

@@ -14,6 +14,7 @@ use Rattle.mania.specs.LimitedQueue as Queue
 use Rattle.mania.specs.Made.{Made}
 use Rattle.mania.specs.Object.{object}
 use Rattle.mania.specs.Convert as Convert
+use Rattle.mania.specs.Convert.{walkAfter, afterObject}
 use Rattle.density.specs.Queued.{queued}
 use Rattle.pattern.specs.declared.Pattern.{Pattern}
 use Rattle.pattern.specs.Answers.{madeBy}
@@ -24,7 +25,7 @@ use Rattle.walk.specs.declared.InForce.{InForce}
 use Rattle.walk.specs.declared.Met.{Met}
 use Rattle.walk.specs.declared.Walk.{Walk}
 use Rattle.walk.specs.declared.Step.{Step}
-use Rattle.walk.specs.Kept.{walkOf, leftBy, after-left}
+use Rattle.walk.specs.Kept.{walkOf}
 use Rattle.walk.specs.Steps.{factsBy, Meets, KeepsBy, Finishes, densityAt, factsIn, objectRule, tooLong, Next, Stops, refuses, full, StepsBy, Steps}
 
 facts-are : (g : Song) (c : InForce) (w : Walk) (o : Object) (m : Met) → Meets g c (w .density) o m → m .facts ≡ factsIn g c w o
@@ -44,9 +45,9 @@ module _ (entry exit words : List ℕ) (g : Song) (c : InForce) (w : Walk) (o : 
   ruled = ap (λ (f : Facts). on (object f (w .prev) (g .columns) o) d) (sym (facts-are g c w o m h)) ∙ sym says
 
   next-of : (x : Walk) → KeepsBy entry exit words o m p stair w true x → Next entry exit g c w o d x e
-  unfolding walkOf leftBy
+  unfolding walkOf walkAfter afterObject
   next-of x k =
-      let left : walkOf x ≡ leftBy (m .facts) o (queued (m .density)) (p .mask) (p .last) stair (p .count) (walkOf w) = k .3 in
+      let left : walkOf x ≡ walkAfter (m .facts) o (queued (m .density)) (p .mask) (p .last) stair (p .count) (walkOf w) = k .3 in
       record {
         made = made;
         says = ruled;
@@ -54,9 +55,8 @@ module _ (entry exit words : List ℕ) (g : Song) (c : InForce) (w : Walk) (o : 
         written = k .1;
         after =
             left
-            ∙ ap₂ (λ (f : Facts) (q : Queue.Density). leftBy f o q (p .mask) (p .last) stair (p .count) (walkOf w)) (facts-are g c w o m h) (h .density)
-            ∙ ap (λ (n : ℕ). leftBy (factsIn g c w o) o (densityAt w o) (p .mask) (p .last) stair n (walkOf w)) (sym counted)
-            ∙ sym (after-left (factsIn g c w o) o (densityAt w o) made (walkOf w));
+            ∙ ap₂ (λ (f : Facts) (q : Queue.Density). walkAfter f o q (p .mask) (p .last) stair (p .count) (walkOf w)) (facts-are g c w o m h) (h .density)
+            ∙ ap (λ (n : ℕ). walkAfter (factsIn g c w o) o (densityAt w o) (p .mask) (p .last) stair n (walkOf w)) (sym counted);
         few = subst (λ (n : ℕ). n ≤ 2050) (sym counted) (deck .0);
         sound =
             record {

@@ -25,7 +25,7 @@ use Rattle.mania.specs.Chart.{body, inWalkOrder}
 use Rattle.mania.specs.LimitedQueue as Queue
 use Rattle.mania.specs.Made.{Made}
 use Rattle.mania.specs.Object.{object}
-use Rattle.mania.specs.Convert.{afterObject, beginning, walk}
+use Rattle.mania.specs.Convert.{walkAfter, afterObject, beginning, walk}
 use Rattle.mania.specs.Convert as Convert
 use Rattle.mania.specs.Walked.{Stop, stop, onWalk}
 use Rattle.density.specs.Queued.{Held, queued}
@@ -40,7 +40,7 @@ use Rattle.walk.specs.declared.Kept.{Kept}
 use Rattle.walk.specs.declared.Step.{Step}
 use Rattle.walk.specs.declared.WalkEnd.{WalkEnd}
 use Rattle.walk.specs.declared.WalkEnd.the-variants as E
-use Rattle.walk.specs.Kept.{walkOf, leftBy}
+use Rattle.walk.specs.Kept.{walkOf}
 
 -- the struct is of the song of an accepted record
 pub record OfRecord (bytes : List ℕ) (g : Song) : Type 0 where
@@ -95,7 +95,7 @@ tooLong entry w n = ltb (length entry) (8 + 17 * (w .notes + n))
 abbrev pub KeepsBy : (entry exit words : List ℕ) → Object → Met → Pattern → Stair → Walk → Bool → Walk → Type 0
 KeepsBy entry exit words o m p stair w true x =
     (tooLong entry w (p .count) ≡ false) × (exit ≡ splice entry (8 + 17 * w .notes) (body (map (noteAt o) (take (p .count) words))))
-    × Held (x .density) × (walkOf x ≡ leftBy (m .facts) o (queued (m .density)) (p .mask) (p .last) stair (p .count) (walkOf w))
+    × Held (x .density) × (walkOf x ≡ walkAfter (m .facts) o (queued (m .density)) (p .mask) (p .last) stair (p .count) (walkOf w))
 KeepsBy entry exit words o m p stair w false x = tooLong entry w (p .count) ≡ true
 
 abbrev pub Keeps : (entry exit words : List ℕ) → Object → Met → Pattern → Stair → Walk → Kept → Type 0

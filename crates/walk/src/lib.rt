@@ -5,14 +5,13 @@ ghost use mathlib.Core.List.{List};
 ghost use lib.ListN.{length};
 ghost use Rattle.rules.specs.Each.{Each};
 ghost use Rattle.record.specs.Object.{objects};
-ghost use Rattle.mania.specs.declared.Facts.{Facts};
 ghost use Rattle.mania.specs.Convert as Convert;
-ghost use Rattle.mania.specs.Convert.{positionAfter, timeAfter, leaves};
+ghost use Rattle.mania.specs.Convert.{spanIn, positionAfter, timeAfter, leaves, walkAfter};
 ghost use Rattle.mania.specs.PathObject.{spanLength};
 ghost use Rattle.mania.specs.Range.{InRange};
 ghost use Rattle.density.specs.Queued.{Held, queued};
 ghost use Rattle.walk.specs.declared.Song.{Song};
-ghost use Rattle.walk.specs.Kept.{spanIn, walkOf, leftBy};
+ghost use Rattle.walk.specs.Kept.{walkOf};
 ghost use Rattle.walk.specs.Steps.{OfRecord, InForceOf, InForceAt, Meets, Keeps, Finishes, Sound, Steps, rule, Ends};
 use density::Density;
 use density::compute_density;
@@ -94,7 +93,7 @@ fn meets(o: Object, d: Density) -> Density
 // The density after an object whose span length is given.
 fn density_after(o: Object, span: u32, d: Density) -> Density
     requires { ⌜ Held d ⌝ }
-    ensures { λ r. ⌜ Held r × ((f : Facts) → span ≡ spanIn f o (o .kind) → queued r ≡ leaves f o (o .kind) (queued d)) ⌝ }
+    ensures { λ r. ⌜ Held r × (queued r ≡ leaves o span (o .kind) (queued d)) ⌝ }
 {
     let kind = o.kind;
     match kind {
@@ -111,7 +110,7 @@ fn density_after(o: Object, span: u32, d: Density) -> Density
 
 // The previous time after an object whose span length is given.
 fn time_after(o: Object, span: u32) -> f64
-    ensures { λ r. ⌜ ((f : Facts) → span ≡ spanIn f o (o .kind) → r ≡ timeAfter f o (o .kind)) ⌝ }
+    ensures { λ r. ⌜ r ≡ timeAfter o span (o .kind) ⌝ }
 {
     let kind = o.kind;
     match kind {
@@ -155,7 +154,7 @@ fn after_object(
     w: Walk,
 ) -> Walk
     requires { ⌜ Held met × (w .notes + count < 2 ^ 32) ⌝ }
-    ensures { λ r. ⌜ Held (r .density) × (walkOf r ≡ leftBy f o (queued met) mask last stair count (walkOf w)) ⌝ }
+    ensures { λ r. ⌜ Held (r .density) × (walkOf r ≡ walkAfter f o (queued met) mask last stair count (walkOf w)) ⌝ }
 {
     let span = span_in(f, o);
     let time = time_after(o, span);

@@ -4,7 +4,7 @@ use Prim.Native.Nat.{ℕ, suc, _-_, _^_, _≤_, _<_}
 use native.Mathlib.Nat.{le-refl}
 use native.Mathlib.Omega.{arith}
 use lib.Bits.{bitOr}
-use Rattle.settings.specs.Laws.{at-deck}
+use Rattle.mania.proofs.Demand.{at-deck}
 use Rattle.announced.specs.Gathered.{gathered, gathered-none, gathered-next}
 use Rattle.announced.proofs.gather.Statement.{statement}
 use Rattle.announced.proofs.gather.Tie as tie

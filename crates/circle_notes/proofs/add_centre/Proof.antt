@@ -1,7 +1,7 @@
 -- `circle_notes::add_centre` meets its contract. Assumes nothing.
 use native.Mathlib.Omega.{arith}
 use Rattle.random.specs.Play.{play}
-use Rattle.circle_notes.specs.Parts.{addCentre}
+use Rattle.mania.specs.HitObject.{addCentre}
 use Rattle.pattern.specs.Laws.Words.{at-most-le}
 use borrow.Author.Needs.{needs}
 use Rattle.circle_notes.proofs.add_centre.Statement.{statement}

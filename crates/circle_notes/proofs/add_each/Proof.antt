@@ -3,21 +3,22 @@ use mathlib.Core.Path.{refl, sym, ap, subst, _∙_}
 use lib.ListN.{length}
 use Prim.Native.Nat.{_-_}
 use native.Mathlib.Omega.{arith}
+use Rattle.rules.specs.Rule.{if_then_else_}
+use Rattle.rules.specs.Refusal.{ObjectRule}
 use Rattle.random.specs.Play.{on}
 use Rattle.mania.specs.declared.Note.{Note}
-use Rattle.mania.specs.Pattern.{Pattern, empty}
+use Rattle.mania.specs.Pattern.{Pattern}
 use Rattle.mania.specs.PatternGenerator.{randomStart}
-use Rattle.mania.specs.HitObject.{addEach}
+use Rattle.mania.specs.HitObject.{addEach, reversed, stacked}
 use Rattle.pattern.specs.Laws.Searches.{start-le}
 use Rattle.pattern.specs.Answers.{placed, AtMost}
-use Rattle.circle_notes.specs.Parts.{goal}
 use Rattle.pattern.specs.Laws.Words.{empty-is}
-use Rattle.circle_notes.proofs.Loops.{Each, each-more, each-refused, each-end}
+use Rattle.circle_notes.proofs.Loops.{goal, each-whole, Each, each-more, each-refused, each-end}
 use Rattle.circle_notes.proofs.add_each.Statement.{statement}
 use Rattle.circle_notes.proofs.add_each.Tie as tie
 
 abbrev Inv-loop : tie.InvT-loop
-Inv-loop g turn words₀ columns rest₀ p₀ i₀ words rest p i = Each g turn (length words₀) words rest p i (on (addEach g (goal g turn) (g .columns - randomStart (g .columns)) (randomStart (g .columns)) empty) rest₀)
+Inv-loop g turn words₀ columns rest₀ p₀ i₀ words rest p i = Each g (goal g turn) (length words₀) words rest p i (on (if turn then reversed g else stacked g) rest₀)
 
 abbrev μ-loop : tie.MeasureT-loop
 μ-loop g turn words₀ columns rest₀ p₀ i₀ words rest p i = columns - i
@@ -33,7 +34,7 @@ loop-holds c =
       same = refl;
       many = omega arith;
       within = rw e (start-le _);
-      goes = rw e (ap (λ (p : Pattern Note). on (addEach (a .g) (goal (a .g) (a .turn)) (a .g .columns - randomStart (a .g .columns)) (randomStart (a .g .columns)) p) (a .d)) (empty-is _ _));
+      goes = rw e (ap (λ (p : Pattern Note). on (addEach (a .g) (goal (a .g) (a .turn)) (a .g .columns - randomStart (a .g .columns)) (randomStart (a .g .columns)) p) (a .d)) (empty-is _ _) ∙ ap (λ (r : ObjectRule (Pattern Note)). on r (a .d)) (each-whole (a .g) (a .turn)));
     }
 
 goal-of-requires : tie.Need-goal-of-requires Inv-loop μ-loop

@@ -3,7 +3,7 @@ use mathlib.Core.Path.{sym, ap, subst, _∙_}
 use native.Mathlib.Omega.{arith}
 use Rattle.random.specs.Laws.On.{found-bind, refused-bind}
 use Rattle.pattern.specs.Answers.{placed, AtMost}
-use Rattle.circle_notes.specs.Parts.{addPair}
+use Rattle.mania.specs.HitObject.{addPair}
 use Rattle.pattern.specs.Laws.Words.{at-most-le}
 use borrow.Author.Needs.{needs}
 use Rattle.circle_notes.proofs.add_pair.Statement.{statement}

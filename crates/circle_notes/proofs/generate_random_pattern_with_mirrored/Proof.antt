@@ -3,7 +3,6 @@ use mathlib.Core.Path.{sym, ap, _∙_}
 use Rattle.random.specs.Play.{on}
 use Rattle.mania.specs.declared.CircleChances.{CircleChances}
 use Rattle.mania.specs.HitObject.{generateRandomPattern, generateRandomPatternWithMirrored}
-use Rattle.hit_object_type.specs.Unmirrored.{unmirrored}
 use borrow.Author.Needs.{needs}
 use Rattle.circle_notes.proofs.generate_random_pattern_with_mirrored.Statement.{statement}
 use Rattle.circle_notes.proofs.generate_random_pattern_with_mirrored.Tie as tie
@@ -21,7 +20,7 @@ same-length : tie.Need-same-length
 same-length c = search needs
 
 returns : tie.Need-returns
-unfolding generateRandomPatternWithMirrored unmirrored
+unfolding generateRandomPatternWithMirrored
 returns c =
     let u = c .before .before .before .before in
     let t = u .before in

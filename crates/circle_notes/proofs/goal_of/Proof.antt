@@ -1,7 +1,7 @@
 -- `circle_notes::goal_of` meets its contract. Assumes nothing.
 use native.Mathlib.Omega.{arith}
 use Rattle.pattern.specs.Laws.Searches.{start-lt}
-use Rattle.circle_notes.specs.Parts.{goal}
+use Rattle.mania.specs.HitObject.{image}
 use borrow.Author.Needs.{needs}
 use Rattle.circle_notes.proofs.goal_of.Statement.{statement}
 use Rattle.circle_notes.proofs.goal_of.Tie as tie
@@ -19,11 +19,10 @@ sub-result-2 : tie.Need-sub-result-2
 sub-result-2 c = search needs
 
 returns : tie.Need-returns
-unfolding goal
+unfolding image
 returns c = rw (c .if1 .taken, ← (c .before .random-start .ensures))
 
 returns-2 : tie.Need-returns-2
-unfolding goal
 returns-2 c = rw (c .if1 .left)
 
 pub goal-of-spec : {M : Type 1} → statement M

@@ -15,10 +15,9 @@ use Rattle.floats.specs.Least.{clamped}
 use Rattle.mania.specs.Steps.{double}
 use Rattle.mania.specs.Pattern.{Pattern}
 use Rattle.mania.specs.PatternGenerator.{getRandomNoteCount}
-use Rattle.mania.specs.HitObject.{mirroredChances, atCentre, mirrorNotes}
+use Rattle.mania.specs.HitObject.{mirroredChances, atCentre, mirrorNotes, mirrorFrom}
 use Rattle.pattern.specs.Answers.{number}
 use Rattle.pattern.specs.Laws.Bounds.{count-le}
-use Rattle.circle_notes.specs.Parts.{addCentre, mirrorEnd, mirrorFrom}
 use borrow.Author.Needs.{needs}
 use Rattle.circle_notes.proofs.mirror_notes.Statement.{statement}
 use Rattle.circle_notes.proofs.mirror_notes.Tie as tie
@@ -41,14 +40,14 @@ enum-known-v c = search needs
 enum-told : tie.Need-enum-told
 enum-told c = search needs
 
--- the rule after its first draw, with the code's parts named
+-- the rule after its first draw
 rest : HitObjectPatternGenerator → MirrorChances → ℕ → ObjectRule (Pattern Note)
 rest g m v =
     getRandomNoteCount (clamped (double 0 1) (double 1 1) (m .p2)) (clamped (double 0 1) (double 1 1) (m .p3)) (double 0 1) (double 0 1) (double 0 1)
     >>= (λ n. mirrorFrom g n (atCentre (g .columns) n (m .centre) (unit v)))
 
 named : (g : HitObjectPatternGenerator) (m : MirrorChances) → mirrorNotes g m ≡ (value >>= rest g (mirroredChances (g .columns) m))
-unfolding mirrorNotes mirrorFrom mirrorEnd addCentre rest
+unfolding mirrorNotes rest
 named g m = refl
 
 returns : tie.Need-returns

@@ -1,6 +1,6 @@
 -- `hit_object_type::unmirrored` meets its contract. Assumes nothing.
 use lib.Ieee.{round, ofBits}
-use Rattle.hit_object_type.specs.Unmirrored.{unmirrored}
+use Rattle.mania.specs.HitObject.{unmirrored}
 use borrow.Author.Needs.{needs}
 use Rattle.hit_object_type.proofs.unmirrored.Statement.{statement}
 use Rattle.hit_object_type.proofs.unmirrored.Tie as tie

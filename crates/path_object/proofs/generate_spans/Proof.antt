@@ -1,12 +1,12 @@
--- `path_object::generate_spans` meets its contract. Assumes nothing.
+-- `path_object::generate_spans` meets its contract: at each return, the tests that led there say which branch it is. Assumes nothing.
 use borrow.Author.Needs.{needs}
 use native.Mathlib.Omega.{arith}
 use Rattle.slider_patterns.proofs.Bounds.{places}
+use Rattle.path_object.proofs.Bounds.{few-spans}
 use borrow.Author.Tests.{lt-leb, le-leb}
 use lib.Ieee.{round, ofBits}
 use Rattle.mania.specs.PatternType.{_⊔ₜ_}
-use Rattle.mania.specs.PathObject.{generateSpans}
-use Rattle.path_object.specs.Parts.{longSpans}
+use Rattle.mania.specs.PathObject.{percent, generateSpans}
 use Rattle.path_object.proofs.generate_spans.Statement.{statement}
 use Rattle.path_object.proofs.generate_spans.Tie as tie
 
@@ -61,17 +61,57 @@ returns-4 c =
     places _ _ _ _ _ _ (c .before .before .generate-random-multiple-notes .ensures)
     (rw (lt-leb _ _ (c .before .before .before .before .before .before .before .if1 .left), lt-leb _ _ (c .before .before .before .before .before .before .if2 .left), lt-leb _ _ (c .before .before .before .before .before .if3 .left), c .before .before .before .before .if4 .taken)) (omega arith)
 
-long-spans-requires : tie.Need-long-spans-requires
-long-spans-requires c κs = search needs
+lasting-requires : tie.Need-lasting-requires
+lasting-requires c κs = search needs
+
+generate-n-random-notes-requires : tie.Need-generate-n-random-notes-requires
+generate-n-random-notes-requires c κs = search needs
 
 same-length-5 : tie.Need-same-length-5
 same-length-5 c = search needs
 
 returns-5 : tie.Need-returns-5
-unfolding generateSpans longSpans round ofBits
+unfolding generateSpans percent round ofBits
 returns-5 c =
-    places _ _ _ _ _ _ (c .before .before .long-spans .ensures)
-    (rw (lt-leb _ _ (c .before .before .before .before .before .before .before .if1 .left), lt-leb _ _ (c .before .before .before .before .before .before .if2 .left), lt-leb _ _ (c .before .before .before .before .before .if3 .left), c .before .before .before .before .if4 .left)) (omega arith)
+    let t = c .before .before .before .before in
+    let e = t .before .before in
+    places _ _ _ _ _ _ (c .before .before .generate-n-random-notes .ensures)
+    (rw (lt-leb _ _ (e .before .before .before .if1 .left), lt-leb _ _ (e .before .before .if2 .left), lt-leb _ _ (e .before .if3 .left), e .if4 .left, ← (t .before .lasting .ensures), le-leb _ _ (t .if5 .taken))) (omega arith)
+
+tile-limit-requires : tie.Need-tile-limit-requires
+tile-limit-requires c κs = search needs
+
+generate-tiled-hold-notes-requires : tie.Need-generate-tiled-hold-notes-requires
+generate-tiled-hold-notes-requires c κs = search needs
+
+same-length-6 : tie.Need-same-length-6
+same-length-6 c = search needs
+
+returns-6 : tie.Need-returns-6
+unfolding generateSpans round ofBits
+returns-6 c =
+    let n = c .before .before .before .before .before .before .before in
+    let e = n .before .before in
+    places _ _ _ _ _ _ (c .before .before .generate-tiled-hold-notes .ensures)
+    (rw (lt-leb _ _ (e .before .before .before .if1 .left), lt-leb _ _ (e .before .before .if2 .left), lt-leb _ _ (e .before .if3 .left), e .if4 .left, ← (n .before .lasting .ensures), lt-leb _ _ (n .if5 .left), ← (c .before .before .before .before .before .before .tile-limit .ensures), c .before .before .before .before .if6 .taken)) (omega arith)
+
+generate-hold-and-normal-notes-requires : tie.Need-generate-hold-and-normal-notes-requires
+generate-hold-and-normal-notes-requires c κs =
+    let l = c .before .before .before .before .before in
+    let s = l .before .before .before .before .before .before in
+    let g = s .args .g in
+    (s .pre .0, few-spans (g .length) (g .spans) (l .before .before .if3 .left) (omega (arith, l .lasting .ensures, c .before .before .before .before .if5 .left, s .pre .1)))
+
+same-length-7 : tie.Need-same-length-7
+same-length-7 c = search needs
+
+returns-7 : tie.Need-returns-7
+unfolding generateSpans round ofBits
+returns-7 c =
+    let n = c .before .before .before .before .before .before .before in
+    let e = n .before .before in
+    places _ _ _ _ _ _ (c .before .before .generate-hold-and-normal-notes .ensures)
+    (rw (lt-leb _ _ (e .before .before .before .if1 .left), lt-leb _ _ (e .before .before .if2 .left), lt-leb _ _ (e .before .if3 .left), e .if4 .left, ← (n .before .lasting .ensures), lt-leb _ _ (n .if5 .left), ← (c .before .before .before .before .before .before .tile-limit .ensures), c .before .before .before .before .if6 .left)) (omega arith)
 
 pub generate-spans-spec : {M : Type 1} → statement M
 generate-spans-spec =
@@ -90,6 +130,14 @@ generate-spans-spec =
     generate-random-multiple-notes-requires
     same-length-4
     returns-4
-    long-spans-requires
+    lasting-requires
+    generate-n-random-notes-requires
     same-length-5
-    returns-5)
+    returns-5
+    tile-limit-requires
+    generate-tiled-hold-notes-requires
+    same-length-6
+    returns-6
+    generate-hold-and-normal-notes-requires
+    same-length-7
+    returns-7)

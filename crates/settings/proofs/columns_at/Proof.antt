@@ -1,6 +1,6 @@
 -- `settings::columns_at` meets its contract, by those of the functions that it calls. Assumes nothing.
 use borrow.Author.Tests.{eq-eqb, ne-eqb}
-use Rattle.settings.specs.Counts.{columnsAt}
+use Rattle.mania.specs.Convert.{columnsAt}
 use borrow.Author.Needs.{needs}
 use Rattle.settings.proofs.columns_at.Statement.{statement}
 use Rattle.settings.proofs.columns_at.Tie as tie

@@ -1,6 +1,6 @@
 -- `settings::columns_of` meets its contract. Assumes nothing.
 use borrow.Author.Tests.{eq-eqb, ne-eqb}
-use Rattle.settings.specs.Counts.{keysOr}
+use Rattle.mania.specs.Convert.{keysOr}
 use borrow.Author.Needs.{needs}
 use Rattle.settings.proofs.columns_of.Statement.{statement}
 use Rattle.settings.proofs.columns_of.Tie as tie

@@ -3,7 +3,7 @@ use mathlib.Core.Path.{_∙_}
 use mir.Syntax.{w32}
 use mir.ValLaws.{toZ-ofZ}
 use lib.Ieee.{round, ofBits}
-use Rattle.settings.specs.Counts.{difficultyOf}
+use Rattle.mania.specs.PatternGenerator.{difficultyOf}
 use borrow.Author.Needs.{needs}
 use Rattle.settings.proofs.conversion_difficulty.Statement.{statement}
 use Rattle.settings.proofs.conversion_difficulty.Tie as tie

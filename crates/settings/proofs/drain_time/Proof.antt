@@ -3,8 +3,7 @@ use mathlib.Core.Path.{ap, _∙_}
 use mir.Syntax.{w32}
 use mir.ValLaws.{toZ-ofZ}
 use lib.Ieee.{round, ofBits}
-use Rattle.mania.specs.PatternGenerator.{orTenThousand}
-use Rattle.settings.specs.Counts.{drainOf}
+use Rattle.mania.specs.PatternGenerator.{orTenThousand, drainTime}
 use borrow.Author.Needs.{needs}
 use Rattle.settings.proofs.drain_time.Statement.{statement}
 use Rattle.settings.proofs.drain_time.Tie as tie
@@ -16,7 +15,7 @@ or-ten-thousand-requires : tie.Need-or-ten-thousand-requires
 or-ten-thousand-requires c κs = search needs
 
 returns : tie.Need-returns
-unfolding drainOf round ofBits
+unfolding drainTime round ofBits
 returns c =
     toZ-ofZ w32 (c .or-ten-thousand .result) (search needs)
     ∙ c .or-ten-thousand .ensures

@@ -1,5 +1,5 @@
 -- `settings::target_columns` meets its contract, by those of the functions that it calls. Assumes nothing.
-use Rattle.settings.specs.Counts.{columnsBy}
+use Rattle.mania.specs.Convert.{columnsBy}
 use borrow.Author.Needs.{needs}
 use Rattle.settings.proofs.target_columns.Statement.{statement}
 use Rattle.settings.proofs.target_columns.Tie as tie

@@ -1,5 +1,6 @@
 -- `walk::after_object` meets its contract. Assumes nothing.
-use Rattle.walk.specs.Kept.{walkOf, leftBy}
+use Rattle.mania.specs.Convert.{walkAfter}
+use Rattle.walk.specs.Kept.{walkOf}
 use borrow.Author.Needs.{needs}
 use Rattle.walk.proofs.after_object.Statement.{statement}
 use Rattle.walk.proofs.after_object.Tie as tie
@@ -20,11 +21,10 @@ add-notes : tie.Need-add-notes
 add-notes c = search needs
 
 returns : tie.Need-returns
-unfolding walkOf leftBy
+unfolding walkOf walkAfter
 returns c =
     let k = c .before in
-    let s = k .before .before .before .span-in .ensures in
-    (k .density-after .ensures .0, rw (k .before .before .time-after .ensures _ s, k .before .position-after .ensures, k .density-after .ensures .1 _ s))
+    (k .density-after .ensures .0, rw (k .before .before .time-after .ensures, k .before .position-after .ensures, k .density-after .ensures .1, k .before .before .before .span-in .ensures))
 
 pub after-object-spec : {M : Type 1} → statement M
 after-object-spec =

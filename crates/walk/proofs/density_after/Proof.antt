@@ -1,10 +1,8 @@
 -- `walk::density_after` meets its contract. Assumes nothing.
 use mathlib.Core.Path.{sym, ap, _∙_}
-use Prim.Native.Nat.{ℕ, _+_}
 use Rattle.model.specs.declared.Kind.{Kind}
 use Rattle.density.specs.Queued.{queued}
-use Rattle.mania.specs.Convert.{nodes, leaves}
-use Rattle.walk.specs.Kept.{spanIn}
+use Rattle.mania.specs.Convert.{leaves}
 use borrow.Author.Needs.{needs}
 use Rattle.walk.proofs.density_after.Statement.{statement}
 use Rattle.walk.proofs.density_after.Tie as tie
@@ -38,25 +36,21 @@ compute-density-requires-2 c κs = search needs
 
 returns : tie.Need-returns
 unfolding leaves
-returns c = (c .before .before .pre, λ f e. rw (c .enum-told .given .1))
+returns c = (c .before .before .pre, rw (c .enum-told .given .1))
 
 returns-2 : tie.Need-returns-2
-unfolding leaves spanIn
+unfolding leaves
 returns-2 c =
     let a = c .before .before .before .before .args in
-    let k = c .before .before .kind .given in
-    let q = queued (a .d) in (
-      c .nodes .ensures .0,
-      λ f e. c .nodes .ensures .1 ∙ (ap (λ (n : ℕ). nodes (a .o) n (k .0 .0 + 2) 0 q) (e ∙ ap (spanIn f (a .o)) (k .1)) ∙ ap (λ (x : Kind). leaves f (a .o) x q) (sym (k .1))),
-    )
+    (c .nodes .ensures .0, c .nodes .ensures .1 ∙ ap (λ (x : Kind). leaves (a .o) (a .span) x (queued (a .d))) (sym (c .before .before .kind .given .1)))
 
 returns-3 : tie.Need-returns-3
 unfolding leaves
-returns-3 c = (c .compute-density .ensures .0, λ f e. rw (c .before .before .before .kind2 .given .1) (c .compute-density .ensures .1))
+returns-3 c = (c .compute-density .ensures .0, rw (c .before .before .before .kind2 .given .1) (c .compute-density .ensures .1))
 
 returns-4 : tie.Need-returns-4
 unfolding leaves
-returns-4 c = (c .compute-density2 .ensures .0, λ f e. rw (c .before .before .before .kind3 .given .1) (c .compute-density2 .ensures .1))
+returns-4 c = (c .compute-density2 .ensures .0, rw (c .before .before .before .kind3 .given .1) (c .compute-density2 .ensures .1))
 
 pub density-after-spec : {M : Type 1} → statement M
 density-after-spec =

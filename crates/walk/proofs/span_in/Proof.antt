@@ -1,6 +1,6 @@
 -- `walk::span_in` meets its contract. Assumes nothing.
 use mathlib.Core.Path.{sym, ap, _∙_}
-use Rattle.walk.specs.Kept.{spanIn}
+use Rattle.mania.specs.Convert.{spanIn}
 use borrow.Author.Needs.{needs}
 use Rattle.walk.proofs.span_in.Statement.{statement}
 use Rattle.walk.proofs.span_in.Tie as tie

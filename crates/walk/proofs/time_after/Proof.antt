@@ -1,8 +1,6 @@
 -- `walk::time_after` meets its contract. Assumes nothing.
 use mathlib.Core.Path.{sym, ap, _∙_}
-use Prim.Native.Nat.{ℕ, _+_}
-use Rattle.mania.specs.Convert.{nodeTime, timeAfter}
-use Rattle.walk.specs.Kept.{spanIn}
+use Rattle.mania.specs.Convert.{timeAfter}
 use borrow.Author.Needs.{needs}
 use Rattle.walk.proofs.time_after.Statement.{statement}
 use Rattle.walk.proofs.time_after.Tie as tie
@@ -30,22 +28,21 @@ enum-known-kind-3 c = search needs
 
 returns : tie.Need-returns
 unfolding timeAfter
-returns c = λ f e. rw (c .enum-told .given .1)
+returns c = rw (c .enum-told .given .1)
 
 returns-2 : tie.Need-returns-2
-unfolding timeAfter spanIn
+unfolding timeAfter
 returns-2 c =
-    let o = c .before .before .before .before .args .o in
-    let k = c .before .before .kind .given in
-    λ f e. c .node-time .ensures ∙ (ap (λ (n : ℕ). nodeTime o n (k .0 .0 + 1)) (e ∙ ap (spanIn f o) (k .1)) ∙ ap (timeAfter f o) (sym (k .1)))
+    let a = c .before .before .before .before .args in
+    c .node-time .ensures ∙ ap (timeAfter (a .o) (a .span)) (sym (c .before .before .kind .given .1))
 
 returns-3 : tie.Need-returns-3
 unfolding timeAfter
-returns-3 c = λ f e. rw (c .before .before .kind2 .given .1)
+returns-3 c = rw (c .before .before .kind2 .given .1)
 
 returns-4 : tie.Need-returns-4
 unfolding timeAfter
-returns-4 c = λ f e. rw (c .before .before .kind3 .given .1)
+returns-4 c = rw (c .before .before .kind3 .given .1)
 
 pub time-after-spec : {M : Type 1} → statement M
 time-after-spec =
