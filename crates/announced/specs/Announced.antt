@@ -5,6 +5,7 @@ use mathlib.Core.Bool.{Bool, false, not, _&&_, _||_}
 use lib.Dec.{T, eqb, ltb}
 use lib.Ieee.{Float, binary32, binary64, fits, le}
 use lib.ListN.{length}
+use Rattle.model.specs.Limits.{mostEntries}
 use Rattle.rules.specs.Rule.{if_then_else_}
 use Rattle.floats.specs.Range.{inRange}
 use Rattle.model.specs.Song.{Song}
@@ -39,7 +40,7 @@ settingFits range = inRange (single 0 1) (single 10 1) (range .low) && inRange (
 unfoldable pub columnsRefusal : SettingRange → SettingRange → ℕ → ℕ → ℕ
 columnsRefusal od cs long objects =
     if not (settingFits od && settingFits cs) then 20
-    else if ltb 4095 objects || ltb objects long then 21
+    else if ltb mostEntries objects || ltb objects long then 21
     else 0
 
 -- an f32 of the range

@@ -18,6 +18,7 @@ use lib.Ieee.Fits.{ofInt-fits, and-i}
 use lib.Ieee.Order.{le-of-values}
 use lib.Ieee.Positive.{num, den, den-pos}
 use lib.ListN.{length}
+use Rattle.model.specs.Limits.{mostSpans, mostEntries}
 use Rattle.rules.specs.Rule.{if_then_else_}
 use Rattle.floats.specs.Range.{inRange}
 use Rattle.floats.specs.Whole.{count}
@@ -245,7 +246,7 @@ unfolding columnsRefusal
 checked od cs long objects e =
     let p = passed (settingFits od && settingFits cs) 20 _ (lit< tt) e in
     let t = two (settingFits od) (settingFits cs) (p .0) in
-    record { od-fits = t .0; cs-fits = t .1; enough = ltb-false objects long (second (ltb 4095 objects) (ltb objects long) 21 (lit< tt) (p .1)) }
+    record { od-fits = t .0; cs-fits = t .1; enough = ltb-false objects long (second (ltb mostEntries objects) (ltb objects long) 21 (lit< tt) (p .1)) }
   where
     second : (a b : Bool) (n : ℕ) → 0 < n → (if a || b then n else 0) ≡ 0 → b ≡ false
     second true b n h e = absurd (omega arith)
@@ -381,7 +382,7 @@ record Known (s : Slider) : Type 0 where
   multiplier : AtLeast 3 (s .multiplier)
   velocity : AtLeast 10 (s .velocity)
   beat : UpTo 60000 (s .beat)
-  spans : s .repeats + 1 ≤ 1024
+  spans : s .repeats + 1 ≤ mostSpans
 
 known : (s : Slider) → restRefusal s ≡ 0 → Known s
 unfolding pointsFit factsOf kindFits round
@@ -391,21 +392,21 @@ known s e =
     let place = positionFits (s .position) in
     let start = inRange (double 0 1) (double 16777215 1) (s .start) in
     let sound = ltb (s .sound) 16 in
-    let o = passed (place && start && sound && (ltb (s .repeats) 1024 && distanceIn Missing && nodeFits (s .node))) 6 _ (lit< tt) (p .1) in
+    let o = passed (place && start && sound && (ltb (s .repeats) mostSpans && distanceIn Missing && nodeFits (s .node))) 6 _ (lit< tt) (p .1) in
     let t = two (inRange (double 6 1) (double 60000 1) (s .beat)) (inRange (double 1 10) (double 10 1) (s .velocity)) (p .0) in
-    let k = two (place && start && sound) (ltb (s .repeats) 1024 && distanceIn Missing && nodeFits (s .node)) (o .0) .1 in
+    let k = two (place && start && sound) (ltb (s .repeats) mostSpans && distanceIn Missing && nodeFits (s .node)) (o .0) .1 in
     record {
       multiplier = at-least 3 (double 4 10) (double 36 10) (s .multiplier) (record { size = (refl, refl); low = lit≤ tt }) (refl, refl) (hold (m .0));
       velocity = at-least 10 (double 1 10) (double 10 1) (s .velocity) (record { size = (refl, refl); low = lit≤ tt }) (refl, refl) (hold (t .1));
       beat = up-to 60000 (double 6 1) (double 60000 1) (s .beat) (refl, refl) (refl, refl) (hold (t .0));
-      spans = few (s .repeats) (ltb-true (s .repeats) 1024 (three (ltb (s .repeats) 1024) (distanceIn Missing) (nodeFits (s .node)) k .0));
+      spans = few (s .repeats) (ltb-true (s .repeats) mostSpans (three (ltb (s .repeats) mostSpans) (distanceIn Missing) (nodeFits (s .node)) k .0));
     }
   where
-    few : (n : ℕ) → n < 1024 → n + 1 ≤ 1024
+    few : (n : ℕ) → n < mostSpans → n + 1 ≤ mostSpans
     few n h = omega arith
 
 -- the small numbers of a slider that passes the checks
-pub small-fields : (s : Slider) → restRefusal s ≡ 0 → (s .sound < 16) × (s .repeats < 1024) × (nodeFits (s .node) ≡ true)
+pub small-fields : (s : Slider) → restRefusal s ≡ 0 → (s .sound < 16) × (s .repeats < mostSpans) × (nodeFits (s .node) ≡ true)
 unfolding pointsFit factsOf kindFits
 small-fields s e =
     let m = passed (inRange (double 4 10) (double 36 10) (s .multiplier)) 4 _ (lit< tt) (sym (rest-is s) ∙ e) in
@@ -413,11 +414,11 @@ small-fields s e =
     let place = positionFits (s .position) in
     let start = inRange (double 0 1) (double 16777215 1) (s .start) in
     let sound = ltb (s .sound) 16 in
-    let few = ltb (s .repeats) 1024 in
+    let few = ltb (s .repeats) mostSpans in
     let o = passed (place && start && sound && (few && distanceIn Missing && nodeFits (s .node))) 6 _ (lit< tt) (p .1) in
     let t = two (place && start && sound) (few && distanceIn Missing && nodeFits (s .node)) (o .0) in
     let k = three few (distanceIn Missing) (nodeFits (s .node)) (t .1) in
-    (ltb-true (s .sound) 16 (three place start sound (t .0) .2), ltb-true (s .repeats) 1024 (k .0), k .2)
+    (ltb-true (s .sound) 16 (three place start sound (t .0) .2), ltb-true (s .repeats) mostSpans (k .0), k .2)
 
 module _ (s : Slider) (r : DistanceRange) (e : restRefusal s ≡ 0) (h : distanceFits r ≡ true) (F : T (fits binary64 (r .low))) (G : T (fits binary64 (r .high))) where
   tests : (inRange (double 0 1) (double 131072 1) (r .low) ≡ true) × (inRange (double 0 1) (double 131072 1) (r .high) ≡ true) × (le (r .low) (r .high) ≡ true)

@@ -13,6 +13,8 @@ use model::Kind;
 use model::NodeSound;
 use model::Object;
 use model::Position;
+use model::limits::LATEST_END;
+use model::limits::MOST_OBJECTS;
 
 // A range of od or cs, ends included.
 pub struct SettingRange {
@@ -52,9 +54,6 @@ pub enum Ends {
 
 // ---- the columns
 
-// The most objects of a song.
-const MOST: u32 = 4095;
-
 // Both ends lie in 0 to 10, and the lower is not above the upper.
 fn setting_fits(range: SettingRange) -> bool
     ensures { λ r. ⌜ r ≡ settingFits range ⌝ }
@@ -73,7 +72,7 @@ fn columns_refusal(od: SettingRange, cs: SettingRange, long: u32, objects: u32) 
     let a = setting_fits(od);
     let b = setting_fits(cs);
     let fit = a & b;
-    let many = (MOST < objects) | (objects < long);
+    let many = (MOST_OBJECTS < objects) | (objects < long);
     if !fit {
         return 20;
     }
@@ -118,9 +117,6 @@ pub fn possible_columns(od: SettingRange, cs: SettingRange, long: u32, objects: 
 }
 
 // ---- a slider's end
-
-// The latest end of a slider.
-const LATEST: u32 = 33554431;
 
 // What a slider's end does not depend on is 0.
 fn facts_of(slider: Slider) -> Facts
@@ -209,7 +205,7 @@ pub fn possible_ends(slider: Slider, range: DistanceRange) -> Ends
     let high = range.high;
     let earliest = end_at(slider, low);
     let latest = end_at(slider, high);
-    if LATEST < latest {
+    if LATEST_END < latest {
         return Ends::Refused(8);
     }
     Ends::Between(earliest, latest)

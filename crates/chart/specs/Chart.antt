@@ -7,6 +7,7 @@ use mathlib.Core.Option.{Option, none, some}
 use Prim.Native.Nat.{ℕ, zero, suc, _+_, _*_, _/_, _%_, _^_, _≤_, _<_}
 use lib.Dec.{leb, ltb, eqb}
 use lib.ListN.{length, getD, take, drop}
+use Rattle.chart.specs.Layout.{headerSize, noteSize, chartSize}
 use Rattle.chart.specs.declared.Note.{Note}
 use Rattle.chart.specs.declared.Answer.{Answer}
 use Rattle.chart.specs.declared.Answer.the-variants.{Chart, Refused}
@@ -19,7 +20,7 @@ use Rattle.chart.specs.Bytes.{be, num}
 
 -- ---- the bytes of a chart
 
--- a note's 17 bytes: column 4 bits, hold 1, zero 3, start 64, duration 64
+-- a note: column 4 bits, hold 1, zero 3, start 64, duration 64
 unfoldable pub noteBytes : Note → List ℕ
 noteBytes n = (n .column * 16 + cond (n .hold) 8 0) ∷ (be 8 (n .start) ++ be 8 (n .duration))
 
@@ -41,11 +42,11 @@ noteOf s = record { column = getD s 0 0 / 16; hold = leb 8 (getD s 0 0 % 16); st
 
 unfoldable pub notesOf : ℕ → List ℕ → List Note
 notesOf zero s = []
-notesOf (suc k) s = noteOf s ∷ notesOf k (drop 17 s)
+notesOf (suc k) s = noteOf s ∷ notesOf k (drop noteSize s)
 
 -- from index i on, s holds the bytes of so many notes
 unfoldable pub Holds : List ℕ → ℕ → ℕ → Type 0
-Holds s i count = take (17 * count) (drop i s) ≡ body (notesOf count (drop i s))
+Holds s i count = take (noteSize * count) (drop i s) ≡ body (notesOf count (drop i s))
 
 -- ---- the rule of the chart reader
 
@@ -87,7 +88,7 @@ okRow columns last s = eqb (getD s 0 0 % 8) 0 && okNote columns last (noteOf s)
 
 unfoldable pub okRows : ℕ → ℕ → ℕ → List ℕ → Bool
 okRows columns last zero s = true
-okRows columns last (suc k) s = okRow columns last s && okRows columns (noteOf s .start) k (drop 17 s)
+okRows columns last (suc k) s = okRow columns last s && okRows columns (noteOf s .start) k (drop noteSize s)
 
 -- the fields of the header
 unfoldable pub columnsOf : List ℕ → ℕ
@@ -102,18 +103,18 @@ drawsOf s = num 4 (drop 4 s)
 -- eight bytes at least, version 1, columns 1 to 9, and exactly the stated notes
 unfoldable pub headTests : List ℕ → List Bool
 headTests s =
-    leb 8 (length s)
+    leb headerSize (length s)
     ∷ eqb (getD s 0 0 / 16) 1
     ∷ leb 1 (columnsOf s)
     ∷ leb (columnsOf s) 9
-    ∷ eqb (length s) (8 + 17 * countOf s)
+    ∷ eqb (length s) (chartSize (countOf s))
     ∷ []
 
 unfoldable pub okHead : List ℕ → Bool
 okHead s = every (headTests s)
 
 unfoldable pub okChart : List ℕ → Bool
-okChart s = okHead s && okRows (columnsOf s) 0 (countOf s) (drop 8 s)
+okChart s = okHead s && okRows (columnsOf s) 0 (countOf s) (drop headerSize s)
 
 pub record Score : Type 0 where
   pub columns : ℕ
@@ -121,7 +122,7 @@ pub record Score : Type 0 where
   pub notes : List Note
 
 unfoldable pub scoreOf : List ℕ → Score
-scoreOf s = record { columns = columnsOf s; draws = drawsOf s; notes = notesOf (countOf s) (drop 8 s) }
+scoreOf s = record { columns = columnsOf s; draws = drawsOf s; notes = notesOf (countOf s) (drop headerSize s) }
 
 unfoldable pub decode : List ℕ → Option Score
 decode s = cond (okChart s) (some (scoreOf s)) none
@@ -147,7 +148,7 @@ meaning Refused = refused 14
 
 -- the note of index i, where the bytes go on to its end
 unfoldable pub noteIn : List ℕ → ℕ → Option Note
-noteIn s i = cond (leb (8 + 17 * i + 17) (length s)) (some (noteOf (drop (8 + 17 * i) s))) none
+noteIn s i = cond (leb (chartSize i + noteSize) (length s)) (some (noteOf (drop (chartSize i) s))) none
 
 abbrev pub found : Found → Option Note
 found (At n) = some n

@@ -10,6 +10,7 @@ use lib.Dec.{eqb}
 use lib.ListN.{length, getD, drop, length-drop}
 use lib.Seq.{drop-drop}
 use borrow.Author.Tests.{le-leb, eq-eqb, leb-true, eqb-true}
+use Rattle.chart.specs.Layout.{chartSize, noteSize}
 use Rattle.chart.specs.declared.Note.{Note}
 use Rattle.chart.specs.Bytes.{Bytes, be, num}
 use Rattle.chart.specs.Tests.{every, both, passes}
@@ -21,7 +22,7 @@ use Rattle.chart.specs.Laws.Reader.{note-fits, read-score}
 -- ---- from a chart to its bytes and back
 
 rows-step : (c l k : ℕ) (s : List ℕ) (n : Note) → noteOf s ≡ n → getD s 0 0 % 8 ≡ 0 → okNote c l n ≡ true
-    → okRows c l (suc k) s ≡ okRows c (n .start) k (drop 17 s)
+    → okRows c l (suc k) s ≡ okRows c (n .start) k (drop noteSize s)
 unfolding okRows okRow
 rows-step c l k s n e z h = rw (z, e, h)
 
@@ -38,11 +39,11 @@ rows-back c l (n ∷ ns) h =
     )
 
 decode-is : (s : List ℕ) (c d : ℕ) (ns : List Note) → 8 ≤ length s → getD s 0 0 / 16 ≡ 1 → columnsOf s ≡ c → 1 ≤ c → c ≤ 9 → countOf s ≡ length ns → drawsOf s ≡ d
-    → length s ≡ 8 + 17 * length ns → okRows c 0 (length ns) (drop 8 s) ≡ true → notesOf (length ns) (drop 8 s) ≡ ns
+    → length s ≡ chartSize (length ns) → okRows c 0 (length ns) (drop 8 s) ≡ true → notesOf (length ns) (drop 8 s) ≡ ns
     → decode s ≡ some (record { columns = c; draws = d; notes = ns })
 unfolding decode okChart okHead headTests every scoreOf
 decode-is s c d ns long version columns low high count draws size rows notes =
-    rw (version, columns, count, draws) (rw (le-leb 8 (length s) long, le-leb 1 c low, le-leb c 9 high, eq-eqb (length s) (8 + 17 * length ns) size, rows, notes))
+    rw (version, columns, count, draws) (rw (le-leb 8 (length s) long, le-leb 1 c low, le-leb c 9 high, eq-eqb (length s) (chartSize (length ns)) size, rows, notes))
 
 pub decode-encode : (c d : ℕ) (ns : List Note) → Well c d ns → decode (encode c d ns) ≡ some (record { columns = c; draws = d; notes = ns })
 unfolding columnsOf countOf drawsOf encode header be
@@ -53,14 +54,14 @@ decode-encode c d ns w =
 
 -- ---- from bytes to a chart and back
 
-rows-are : (c l k : ℕ) (s : List ℕ) → length s ≡ 17 * k → Bytes s → okRows c l k s ≡ true → (s ≡ body (notesOf k s)) × (okNotes c l (notesOf k s) ≡ true)
+rows-are : (c l k : ℕ) (s : List ℕ) → length s ≡ noteSize * k → Bytes s → okRows c l k s ≡ true → (s ≡ body (notesOf k s)) × (okNotes c l (notesOf k s) ≡ true)
 unfolding okRows okRow okNotes notesOf body
 rows-are c l zero [] e h ok = (refl, refl)
 rows-are c l zero (a ∷ s) e h ok = absurd (omega arith)
 rows-are c l (suc k) s e h ok =
-    let here = both (okRow c l s) (okRows c (noteOf s .start) k (drop 17 s)) ok in
+    let here = both (okRow c l s) (okRows c (noteOf s .start) k (drop noteSize s)) ok in
     let row = both (eqb (getD s 0 0 % 8) 0) (okNote c l (noteOf s)) (here .0) in
-    let rest = rows-are c (noteOf s .start) k (drop 17 s) (rw (length-drop 17 s) (omega arith)) (bytes-drop 17 s h) (here .1) in
+    let rest = rows-are c (noteOf s .start) k (drop noteSize s) (rw (length-drop noteSize s) (omega arith)) (bytes-drop noteSize s h) (here .1) in
     (row-back s (omega arith) h (eqb-true _ 0 (row .0)) ∙ ap (λ (t : List ℕ). noteBytes (noteOf s) ++ t) (rest .0), rw (row .1) (rest .1))
 
 head-back : (s : List ℕ) → 8 ≤ length s → Bytes s → getD s 0 0 / 16 ≡ 1 → s ≡ header (columnsOf s) (countOf s) (drawsOf s) ++ drop 8 s
@@ -83,7 +84,7 @@ unfolding okChart okHead headTests encode columnsOf countOf drawsOf
 chart-back s h ok =
     let head = passes (headTests s) (both (okHead s) (okRows (columnsOf s) 0 (countOf s) (drop 8 s)) ok .0) in
     let long : 8 ≤ length s = leb-true 8 (length s) (head 0) in
-    let size : length s ≡ 8 + 17 * countOf s = eqb-true (length s) (8 + 17 * countOf s) (head 4) in
+    let size : length s ≡ chartSize (countOf s) = eqb-true (length s) (chartSize (countOf s)) (head 4) in
     let rows = rows-are (columnsOf s) 0 (countOf s) (drop 8 s) (rw (length-drop 8 s) (omega arith)) (bytes-drop 8 s h)
     (both (okHead s) (okRows (columnsOf s) 0 (countOf s) (drop 8 s)) ok .1) in
     let count = length-notesOf (countOf s) (drop 8 s) in (

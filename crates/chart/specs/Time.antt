@@ -4,6 +4,7 @@ use Prim.Native.Nat.{ℕ, _*_, _^_}
 use mathlib.Core.Bool.{Bool, false}
 use lib.IntN.{pos}
 use lib.Ieee.{Float, inf, fin, binary64, ofBits}
+use Rattle.model.specs.Limits.{latestEnd}
 use Rattle.floats.specs.Range.{inRange}
 
 -- the f64 of a bit pattern
@@ -14,6 +15,6 @@ time b = ofBits binary64 b
 unfoldable pub isTime : Float → Bool
 isTime x = inRange (fin false 0 (pos 0)) (inf false) x
 
--- 33,554,431 ms, in ticks
+-- the latest end of a note, in ticks
 abbrev pub latest : ℕ
-latest = 33554431 * 2 ^ 1074
+latest = latestEnd * 2 ^ 1074

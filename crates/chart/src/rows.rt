@@ -1,4 +1,4 @@
-// A note in its 17 bytes.
+// A note in bytes.
 use crate::Note;
 use crate::bytes::get8;
 use crate::bytes::put_byte;
@@ -7,12 +7,13 @@ ghost use mathlib.Core.Path.{_≡_};
 ghost use mathlib.Core.Bool.{cond};
 ghost use Prim.Native.Nat.{_+_, _*_, _≤_, _<_};
 ghost use lib.ListN.{length, drop};
+ghost use Rattle.chart.specs.Layout.{noteSize};
 ghost use Rattle.chart.specs.Bytes.{splice};
 ghost use Rattle.chart.specs.Chart.{noteOf, noteBytes};
 
-// The note in the 17 bytes from `at`.
+// The note in the bytes from `at`.
 pub fn note_at(s: &[u8], at: usize) -> Note
-    requires { ⌜ at + 17 ≤ length (now s) ⌝ }
+    requires { ⌜ at + noteSize ≤ length (now s) ⌝ }
     ensures { λ r. ⌜ r ≡ noteOf (drop at (now (s .entry))) ⌝ }
 {
     let first = s[at];
@@ -32,9 +33,9 @@ fn head(column: u8, hold: bool) -> u8
     if hold { column * 16 + 8 } else { column * 16 }
 }
 
-// Stores a note in the 17 bytes from `at`. All other bytes keep their values.
+// Stores a note in the bytes from `at`. All other bytes keep their values.
 pub fn put_note(s: &mut [u8], at: usize, n: Note)
-    requires { ⌜ (n .column < 16) × (at + 17 ≤ length (now s)) ⌝ }
+    requires { ⌜ (n .column < 16) × (at + noteSize ≤ length (now s)) ⌝ }
     ensures { λ _. ⌜ now (s .exit) ≡ splice (now (s .entry)) at (noteBytes n) ⌝ }
 {
     put8(s, at + 1, n.start);
@@ -42,9 +43,9 @@ pub fn put_note(s: &mut [u8], at: usize, n: Note)
     put8(s, at + 9, n.duration);
 }
 
-// The same, for a note that was read from bytes: with no branch between the stores the compiler moves the 17 bytes as they are.
+// The same, for a note that was read from bytes: with no branch between the stores the compiler moves the bytes as they are.
 pub fn put_row(s: &mut [u8], at: usize, row: Note)
-    requires { ⌜ (row .column < 16) × (at + 17 ≤ length (now s)) ⌝ }
+    requires { ⌜ (row .column < 16) × (at + noteSize ≤ length (now s)) ⌝ }
     ensures { λ _. ⌜ now (s .exit) ≡ splice (now (s .entry)) at (noteBytes row) ⌝ }
 {
     s[at] = head(row.column, row.hold);

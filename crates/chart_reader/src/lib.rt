@@ -6,14 +6,14 @@ use chart::Answer;
 use chart::Found;
 use chart::Note;
 use chart::bytes::get;
+use chart::layout::HEADER_SIZE;
+use chart::layout::NOTE_SIZE;
 use chart::rows::note_at;
+use floats::format::INFINITY;
 ghost use mathlib.Core.Path.{_≡_};
 ghost use Prim.Native.Nat.{_<_};
 ghost use Rattle.chart.specs.Chart.{okHead, okNote, lasts, reading, meaning, noteIn, found};
-ghost use Rattle.chart.specs.Laws.Times.{infinity};
-
-// The bit pattern of infinity: those below it are the times.
-const INFINITY: u64 = 0x7ff0_0000_0000_0000;
+ghost use Rattle.floats.specs.Format.{infinity};
 
 // A hold lasts; the duration of a circle is zero bits.
 fn lasting(hold: bool, duration: u64) -> bool
@@ -62,7 +62,7 @@ fn header_ok(chart: &[u8]) -> bool
     if chart[0] % 16 > 9 {
         return false;
     }
-    chart.len() == 8 + 17 * (get(chart, 1, 3) as usize)
+    chart.len() == HEADER_SIZE + NOTE_SIZE * (get(chart, 1, 3) as usize)
 }
 
 pub fn read(chart: &[u8]) -> Answer
@@ -77,7 +77,7 @@ pub fn read(chart: &[u8]) -> Answer
     let mut last = 0;
     let mut i = 0;
     while i < count {
-        let at = 8 + 17 * i;
+        let at = HEADER_SIZE + NOTE_SIZE * i;
         if chart[at] % 8 != 0 {
             return Answer::Refused;
         }
@@ -99,8 +99,8 @@ pub fn read(chart: &[u8]) -> Answer
 pub fn note(chart: &[u8], index: u32) -> Found
     ensures { λ r. ⌜ found r ≡ noteIn (now (chart .entry)) index ⌝ }
 {
-    let at = 8 + 17 * (index as usize);
-    if at + 17 > chart.len() {
+    let at = HEADER_SIZE + NOTE_SIZE * (index as usize);
+    if at + NOTE_SIZE > chart.len() {
         return Found::Nothing;
     }
     Found::At(note_at(chart, at))

@@ -6,7 +6,7 @@ ghost use Prim.Native.Nat.{_+_, _<_};
 ghost use lib.Dec.{leb};
 ghost use Rattle.floats.specs.Ticks.{ticks};
 ghost use Rattle.chart.specs.Time.{time, latest};
-ghost use Rattle.chart.specs.Laws.Times.{infinity};
+ghost use Rattle.floats.specs.Format.{infinity};
 
 // The bit pattern of 33554431.0.
 const LATEST: u64 = 0x417f_ffff_f000_0000;

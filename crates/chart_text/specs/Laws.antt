@@ -9,6 +9,7 @@ use native.Mathlib.Omega.{arith}
 use lib.ListN.{length, drop}
 use lib.Seq.{drop-drop}
 use borrow.Author.Tests.{eqb-true}
+use Rattle.chart.specs.Layout.{chartSize, noteSize}
 use Rattle.chart.specs.declared.Note.{Note}
 use Rattle.chart.specs.Tests.{passes, both, either-way}
 use Rattle.chart.specs.Chart.{refused, accepted, reading, readingOf, decode, okChart, okHead, headTests, scoreOf, columnsOf, countOf, drawsOf, noteOf, notesOf}
@@ -24,8 +25,8 @@ pub lines-none : (s : List ℕ) → noteLines (notesOf 0 s) ≡ []
 unfolding noteLines notesOf
 lines-none s = refl
 
-pub lines-more : (k : ℕ) (s : List ℕ) → noteLines (notesOf (k + 1) (drop 8 s)) ≡ noteLines (notesOf k (drop 8 s)) ++ noteLine (noteOf (drop (8 + 17 * k) s))
-lines-more k s = rw (notes-more k (drop 8 s), drop-drop (17 * k) 8 s) (note-lines-more (notesOf k (drop 8 s)) (noteOf (drop (8 + 17 * k) s)))
+pub lines-more : (k : ℕ) (s : List ℕ) → noteLines (notesOf (k + 1) (drop 8 s)) ≡ noteLines (notesOf k (drop 8 s)) ++ noteLine (noteOf (drop (chartSize k) s))
+lines-more k s = rw (notes-more k (drop 8 s), drop-drop (noteSize * k) 8 s) (note-lines-more (notesOf k (drop 8 s)) (noteOf (drop (chartSize k) s)))
 
 -- what the reader's answer says of the text
 module _ (s : List ℕ) where
@@ -45,12 +46,12 @@ module _ (s : List ℕ) where
   unfolding text textOf decode
   text-refused e = rw e
 
-  length-read : okChart s ≡ true → length s ≡ 8 + 17 * countOf s
+  length-read : okChart s ≡ true → length s ≡ chartSize (countOf s)
   unfolding okChart okHead headTests
-  length-read e = eqb-true (length s) (8 + 17 * countOf s) (passes (headTests s) (both (okHead s) _ e .0) 4)
+  length-read e = eqb-true (length s) (chartSize (countOf s)) (passes (headTests s) (both (okHead s) _ e .0) 4)
 
   pub read-text : (columns notes draws : ℕ) → reading s ≡ accepted columns notes draws
-      → (length s ≡ 8 + 17 * notes) × (text s ≡ headLine columns notes draws ++ noteLines (notesOf notes (drop 8 s)))
+      → (length s ≡ chartSize notes) × (text s ≡ headLine columns notes draws ++ noteLines (notesOf notes (drop 8 s)))
   read-text columns notes draws h =
       ⊎-elim
       (λ (e : okChart s ≡ true).

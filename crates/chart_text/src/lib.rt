@@ -1,6 +1,8 @@
 // The text of a chart, as `charttext` prints it: one line at a time into a lent buffer, or a whole chart.
 use chart::Answer;
 use chart::Note;
+use chart::layout::HEADER_SIZE;
+use chart::layout::NOTE_SIZE;
 use chart::rows::note_at;
 use chart_reader::read;
 use text::put_decimal;
@@ -10,6 +12,7 @@ use text::put_word;
 ghost use mathlib.Core.Path.{_≡_};
 ghost use Prim.Native.Nat.{_+_, _*_, _≤_, _<_};
 ghost use lib.ListN.{length, drop};
+ghost use Rattle.chart.specs.Layout.{chartSize};
 ghost use Rattle.chart.specs.Bytes.{splice};
 ghost use Rattle.chart.specs.Chart.{notesOf};
 ghost use Rattle.chart_text.specs.Text.{headLine, noteLine, noteLines, refusalLine, text};
@@ -56,14 +59,14 @@ pub fn put_refusal_line(s: &mut [u8], at: usize, number: u32, object: u32, draws
 
 // Stores the lines of the first notes of a chart, so many, from `at`, where there is room for 51 bytes each, and gives the index after them.
 fn put_note_lines(chart: &[u8], count: usize, s: &mut [u8], at: usize) -> usize
-    requires { ⌜ (8 + 17 * count ≤ length (now chart)) × (at + 51 * count ≤ length (now s)) ⌝ }
+    requires { ⌜ (chartSize count ≤ length (now chart)) × (at + 51 * count ≤ length (now s)) ⌝ }
     ensures { λ r. ⌜ (r ≡ at + length (noteLines (notesOf count (drop 8 (now (chart .entry)))))) × (r ≤ at + 51 * count) ⌝ }
     ensures { λ _. ⌜ now (s .exit) ≡ splice (now (s .entry)) at (noteLines (notesOf count (drop 8 (now (chart .entry))))) ⌝ }
 {
     let mut next = at;
     let mut i = 0;
     while i < count {
-        let n = note_at(chart, 8 + 17 * i);
+        let n = note_at(chart, HEADER_SIZE + NOTE_SIZE * i);
         next = put_note_line(s, next, n);
         i += 1;
     }

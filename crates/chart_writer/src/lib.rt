@@ -4,10 +4,13 @@ pub mod order;
 
 use crate::order::arrange;
 use chart::bytes::put;
+use chart::layout::HEADER_SIZE;
+use chart::layout::NOTE_SIZE;
 ghost use mathlib.Core.Path.{_≡_};
 ghost use mathlib.Core.List.{[]};
 ghost use Prim.Native.Nat.{_+_, _*_, _≤_, _<_};
 ghost use lib.ListN.{length, drop};
+ghost use Rattle.chart.specs.Layout.{chartSize};
 ghost use Rattle.chart.specs.Bytes.{splice};
 ghost use Rattle.chart.specs.Chart.{header, encode, notesOf};
 ghost use Rattle.chart.specs.Order.{arranged};
@@ -25,12 +28,12 @@ pub fn put_header(s: &mut [u8], columns: u8, notes: u32, draws: u32)
 // Makes a chart of the notes that stand behind the header's eight bytes in the order in which they came, and gives its length. The bytes
 // after the chart keep their values.
 pub fn finish(chart: &mut [u8], columns: u8, notes: u32, draws: u32) -> usize
-    requires { ⌜ (columns < 16) × (8 + 17 * notes ≤ length (now chart)) ⌝ }
-    ensures { λ r. ⌜ r ≡ 8 + 17 * notes ⌝ }
+    requires { ⌜ (columns < 16) × (chartSize notes ≤ length (now chart)) ⌝ }
+    ensures { λ r. ⌜ r ≡ chartSize notes ⌝ }
     ensures { λ _. ⌜ now (chart .exit) ≡ splice (now (chart .entry)) 0 (encode columns draws (arranged [] (notesOf notes (drop 8 (now (chart .entry)))))) ⌝ }
 {
     let count = notes as usize;
     put_header(chart, columns, notes, draws);
     arrange(chart, 8, count);
-    8 + 17 * count
+    HEADER_SIZE + NOTE_SIZE * count
 }

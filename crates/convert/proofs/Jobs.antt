@@ -13,6 +13,7 @@ use Rattle.random.specs.declared.Draws.{Draws}
 use Rattle.random.specs.Laws.Allowance.{found-run, refused-run}
 use Rattle.record.specs.Record.{parse, accepted, songOf}
 use Rattle.record.specs.Record as Record
+use Rattle.chart.specs.Layout.{chartSize}
 use Rattle.chart.specs.declared.Note as Patterns
 use Rattle.chart.specs.Bytes.{splice}
 use Rattle.chart.specs.Chart.{encode, notesOf}
@@ -96,16 +97,16 @@ module _ (bytes buffer : List ℕ) (a : ℕ) (parsed : parse bytes ≡ accepted 
     counted : length ps ≡ notes
     counted = length-map ns patternOf ∙ sym (w .number)
 
-    long : length (encode (columnsOf S) n (arranged [] ps)) ≡ 8 + 17 * notes
+    long : length (encode (columnsOf S) n (arranged [] ps)) ≡ chartSize notes
     long =
         length-encode (columnsOf S) n (arranged [] ps)
-        ∙ ap (λ (k : ℕ). 8 + 17 * k) (length-arranged [] ps ∙ zero-add (length ps) ∙ counted)
+        ∙ ap (λ (k : ℕ). chartSize k) (length-arranged [] ps ∙ zero-add (length ps) ∙ counted)
 
-    pub made-job : (columns size : ℕ) (last : List ℕ) → columns ≡ columnsOf S → size ≡ 8 + 17 * notes
+    pub made-job : (columns size : ℕ) (last : List ℕ) → columns ≡ columnsOf S → size ≡ chartSize notes
         → last ≡ splice exit 0 (encode columns n (arranged [] (notesOf notes (drop 8 exit)))) → jobEnd last (J.Chart size (e .tally .longest)) ≡ job bytes buffer a
     unfolding ending body Bytes.body
     made-job columns size last c z f =
-        let room : 8 + 17 * length ps ≤ length buffer = subst (λ (k : ℕ). 8 + 17 * k ≤ length buffer) (sym counted) (w .room) in
+        let room : chartSize (length ps) ≤ length buffer = subst (λ (k : ℕ). chartSize k ≤ length buffer) (sym counted) (w .room) in
         let whole : splice exit 0 (encode columns n (arranged [] (notesOf notes (drop 8 exit)))) ≡ written (encode (columnsOf S) n (arranged [] ps)) buffer =
         ap₂ (λ (k q : ℕ). splice exit 0 (encode k n (arranged [] (notesOf q (drop 8 exit))))) c (sym counted)
         ∙ finished buffer exit (columnsOf S) n ps (w .written) room (fits-all bytes buffer S parsed a n (w .nss) ends)

@@ -7,6 +7,7 @@ ghost use Rattle.record.specs.Laws.Known.{Known};
 ghost use Rattle.mania.specs.Job.{refusing};
 ghost use Rattle.walk.specs.Steps.{Ends};
 ghost use Rattle.convert.specs.Ends.{jobEnd, OfSummary, songRule};
+use model::limits::MOST_NOTES;
 use random::Draws;
 use random::Tally;
 use record::Checked;
@@ -47,8 +48,8 @@ fn walk_part(bytes: &[u8], m: Summary, chart: &mut [u8], g: Song, d: Draws) -> W
     requires { ⌜ Known (now bytes) m × OfSummary (now bytes) m g × (8 ≤ length (now chart)) ⌝ }
     ensures { λ r. ⌜ Ends (songRule (now (bytes .entry)) (length (now (chart .entry))) d) (now (chart .entry)) (now (chart .exit)) r ⌝ }
 {
-    let mut words: [u64; 2050] = [0; 2050];
-    let mut spare: [u64; 2050] = [0; 2050];
+    let mut words: [u64; MOST_NOTES] = [0; MOST_NOTES];
+    let mut spare: [u64; MOST_NOTES] = [0; MOST_NOTES];
     let counts = m.counts;
     let places = m.places;
     let count = counts.objects;

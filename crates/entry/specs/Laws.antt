@@ -8,6 +8,7 @@ use lib.Dec.{T, ltb, lit<, lit≤}
 use lib.Ieee.{binary64}
 use lib.Ieee.Back.{round-whole}
 use lib.Ieee.Scale.{finite}
+use Rattle.model.specs.Limits.{mostRepeats, mostSpans}
 use Rattle.rules.specs.Rule.{if_then_else_}
 use Rattle.floats.specs.Range.{inRange}
 use Rattle.floats.specs.Laws.Values.{sized}
@@ -33,9 +34,9 @@ passed false n r h e = absurd (omega arith)
 few-repeats : (k : Kind) → kindFits k ≡ true → FewRepeats k
 unfolding kindFits
 few-repeats Circle e = tt
-few-repeats (Slider repeats distance node) e = below repeats (ltb-true repeats 1024 (three (ltb repeats 1024) (distanceFits distance) (nodeFits node) e .0))
+few-repeats (Slider repeats distance node) e = below repeats (ltb-true repeats mostSpans (three (ltb repeats mostSpans) (distanceFits distance) (nodeFits node) e .0))
   where
-    below : (n : ℕ) → n < 1024 → n ≤ 1023
+    below : (n : ℕ) → n < mostSpans → n ≤ mostRepeats
     below n h = omega arith
 few-repeats (Spinner d) e = tt
 few-repeats (Hold d) e = tt

@@ -10,6 +10,7 @@ use model::Kind;
 use model::NodeSound;
 use model::Object;
 use model::Position;
+use model::limits::MOST_SPANS;
 
 // 2^n.
 fn power(n: u8) -> u16
@@ -103,7 +104,7 @@ fn slider_fits(repeats: u16, distance: Distance, node: NodeSound) -> bool
 {
     let a = distance_fits(distance);
     let b = node_fits(node);
-    (repeats < 1024) & a & b
+    (repeats < MOST_SPANS) & a & b
 }
 
 fn kind_fits(k: Kind) -> bool

@@ -9,7 +9,7 @@ use lib.Signed.{ltZ, leZ}
 use lib.Ieee.{Float, nan, inf, fin}
 use Rattle.floats.specs.Ticks.{ticks}
 use Rattle.chart.specs.Time.{time}
-use Rattle.chart.specs.Laws.Times.{infinity}
+use Rattle.floats.specs.Format.{infinity}
 use Rattle.exact_times.specs.declared.moments.Moment.{Moment}
 use Rattle.exact_times.specs.declared.moments.Moment.the-variants.{At, Before}
 

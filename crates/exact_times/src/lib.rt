@@ -2,11 +2,12 @@
 // the times from 0 on.
 pub mod moments;
 
+use floats::format::LEAD;
 ghost use mathlib.Core.Path.{_≡_};
 ghost use Prim.Native.Nat.{_+_, _*_, _^_, _≤_, _<_};
 ghost use Rattle.floats.specs.Ticks.{ticks};
 ghost use Rattle.chart.specs.Time.{time};
-ghost use Rattle.chart.specs.Laws.Times.{infinity};
+ghost use Rattle.floats.specs.Format.{infinity};
 ghost use Rattle.exact_times.specs.Compare.{orderOf, isLess, isGreater};
 ghost use Rattle.exact_times.specs.Digits.{digitsOf, powerOf, Number};
 
@@ -40,16 +41,16 @@ pub fn is_greater(o: Order) -> bool
 fn digits(b: u64) -> u64
     ensures { λ r. ⌜ r ≡ digitsOf b ⌝ }
 {
-    if b < 0x10_0000_0000_0000 {
+    if b < LEAD {
         return b;
     }
-    0x10_0000_0000_0000 + b % 0x10_0000_0000_0000
+    LEAD + b % LEAD
 }
 
 fn power(b: u64) -> u64
     ensures { λ r. ⌜ r ≡ powerOf b ⌝ }
 {
-    let x = b / 0x10_0000_0000_0000;
+    let x = b / LEAD;
     if x == 0 {
         return 0;
     }

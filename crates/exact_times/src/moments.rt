@@ -4,6 +4,7 @@ use crate::is_greater;
 use crate::is_less;
 use crate::sum_order;
 use crate::sum_order_twice;
+use floats::format::SIGN;
 ghost use mathlib.Core.Path.{_≡_};
 ghost use mathlib.Core.Bool.{true};
 ghost use Prim.Native.Nat.{_+_, _<_};
@@ -12,7 +13,7 @@ ghost use lib.IntN.{pos};
 ghost use lib.Ieee.Scale.{finite};
 ghost use Rattle.floats.specs.Ticks.{ticks};
 ghost use Rattle.chart.specs.Time.{time};
-ghost use Rattle.chart.specs.Laws.Times.{infinity};
+ghost use Rattle.floats.specs.Format.{infinity};
 ghost use Rattle.exact_times.specs.Instants.{instant, coversAt, insideAt, distance, Tells, FirstAt, FirstAfter};
 
 // Whether a hold covers an instant, both ends included. Rounding keeps the order, so the exact sum is asked for only where the rounded one is t.
@@ -73,10 +74,10 @@ pub fn moment_of(t: f64) -> Moment
     ensures { λ r. ⌜ Tells t r ⌝ }
 {
     let b = floats::bits_f64(t);
-    if b < 0x8000_0000_0000_0000 {
+    if b < SIGN {
         return Moment::At(b);
     }
-    if b == 0x8000_0000_0000_0000 {
+    if b == SIGN {
         return Moment::At(0);
     }
     Moment::Before

@@ -1,4 +1,12 @@
 // Whole numbers of floats, worked out from bits.
+pub mod format;
+
+use format::INFINITY;
+use format::INFINITY_F32;
+use format::LEAD;
+use format::LEAD_F32;
+use format::SIGN;
+use format::SIGN_F32;
 ghost use mathlib.Core.Path.{_≡_};
 ghost use mathlib.Core.Bool.{false};
 ghost use Prim.Native.Nat.{_+_, _-_, _*_, _/_, _%_, _^_, _<_, _≤_, min};
@@ -72,12 +80,7 @@ fn size_at(way: Way, negative: bool, exponent: u64, digits: u64) -> u64
         2147483648
     } else if 1022 <= exponent {
         // the number is 2^52 + digits, over 2^(1075 - exponent)
-        next_to(
-            way,
-            negative,
-            4503599627370496 + digits,
-            1u64 << (1075 - exponent),
-        )
+        next_to(way, negative, LEAD + digits, 1u64 << (1075 - exponent))
     } else if exponent + digits == 0 {
         next_to(way, negative, 0, 4)
     } else {
@@ -94,13 +97,8 @@ pub fn to_whole(x: f64, way: Way) -> i32
         return 0;
     }
     let bits = f64::to_bits(x);
-    let negative = 9223372036854775808 <= bits;
-    let size = size_at(
-        way,
-        negative,
-        bits % 9223372036854775808 / 4503599627370496,
-        bits % 4503599627370496,
-    );
+    let negative = SIGN <= bits;
+    let size = size_at(way, negative, bits % SIGN / LEAD, bits % LEAD);
     with_sign(negative, size)
 }
 
@@ -138,13 +136,13 @@ fn narrow_size(exponent: u64, digits: u64) -> u64
 {
     if 1151 <= exponent {
         // 2^128 or more: an infinity
-        2139095040
+        INFINITY_F32 as u64
     } else if 897 <= exponent {
         // 29 of 53 digits are dropped. A carry out of the digits goes into the exponent's field.
-        (exponent - 897) * 8388608 + nearest(4503599627370496 + digits, 536870912)
+        (exponent - 897) * LEAD_F32 + nearest(LEAD + digits, 536870912)
     } else if 873 <= exponent {
         // below the normal range: a multiple of 2^-149
-        nearest(4503599627370496 + digits, 1u64 << (926 - exponent))
+        nearest(LEAD + digits, 1u64 << (926 - exponent))
     } else {
         0
     }
@@ -158,12 +156,9 @@ pub fn narrow(x: f64) -> f32
         return 0.0 / 0.0;
     }
     let bits = f64::to_bits(x);
-    let size = narrow_size(
-        bits % 9223372036854775808 / 4503599627370496,
-        bits % 4503599627370496,
-    );
+    let size = narrow_size(bits % SIGN / LEAD, bits % LEAD);
     let y = f32::from_bits(size as u32);
-    if 9223372036854775808 <= bits { -y } else { y }
+    if SIGN <= bits { -y } else { y }
 }
 
 // Whether the float of a bit pattern is finite, is not negative zero, and lies in a range. A NaN's
@@ -171,10 +166,10 @@ pub fn narrow(x: f64) -> f32
 pub fn within_f64(bits: u64, lo: f64, hi: f64) -> bool
     ensures { λ r. ⌜ r ≡ within binary64 lo hi bits ⌝ }
 {
-    if 9218868437227405312 <= bits % 9223372036854775808 {
+    if INFINITY <= bits % SIGN {
         return false;
     }
-    if bits == 9223372036854775808 {
+    if bits == SIGN {
         return false;
     }
     let x = f64::from_bits(bits);
@@ -185,10 +180,10 @@ pub fn within_f64(bits: u64, lo: f64, hi: f64) -> bool
 pub fn within_f32(bits: u32, lo: f32, hi: f32) -> bool
     ensures { λ r. ⌜ r ≡ within binary32 lo hi bits ⌝ }
 {
-    if 2139095040 <= bits % 2147483648 {
+    if INFINITY_F32 <= bits % SIGN_F32 {
         return false;
     }
-    if bits == 2147483648 {
+    if bits == SIGN_F32 {
         return false;
     }
     let x = f32::from_bits(bits);
@@ -199,7 +194,7 @@ pub fn within_f32(bits: u32, lo: f32, hi: f32) -> bool
 pub fn pattern_f64(bits: u64) -> f64
     ensures { λ r. ⌜ r ≡ float binary64 bits ⌝ }
 {
-    if 9218868437227405312 < bits % 9223372036854775808 {
+    if INFINITY < bits % SIGN {
         return 0.0;
     }
     f64::from_bits(bits)
@@ -208,7 +203,7 @@ pub fn pattern_f64(bits: u64) -> f64
 pub fn pattern_f32(bits: u32) -> f32
     ensures { λ r. ⌜ r ≡ float binary32 bits ⌝ }
 {
-    if 2139095040 < bits % 2147483648 {
+    if INFINITY_F32 < bits % SIGN_F32 {
         return 0.0;
     }
     f32::from_bits(bits)
@@ -231,7 +226,7 @@ pub fn is_finite(x: f64) -> bool
     if x != x {
         return false;
     }
-    f64::to_bits(x) % 9223372036854775808 < 9218868437227405312
+    f64::to_bits(x) % SIGN < INFINITY
 }
 
 // Whether a float is finite, is not negative zero, and lies in a range.

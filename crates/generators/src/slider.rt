@@ -2,6 +2,7 @@
 ghost use mathlib.Core.Path.{_≡_};
 ghost use Prim.Native.Nat.{_≤_};
 ghost use lib.ListN.{length};
+ghost use Rattle.model.specs.Limits.{mostNotes};
 ghost use Rattle.random.specs.Play.{on};
 ghost use Rattle.mania.specs.PathObject as Path;
 ghost use Rattle.pattern.specs.Answers.{Generates};
@@ -60,8 +61,8 @@ pub fn generate_owned(
     words: &mut [u64],
     spare: &mut [u64],
 ) -> ObjectEnd
-    requires { ⌜ Ready g (length (now spare)) × (2050 ≤ length (now words)) ⌝ }
-    ensures { λ r. ⌜ Generates noteOfWord (now (words .exit)) (on (Path.generate g) d) 2050 r ⌝ }
+    requires { ⌜ Ready g (length (now spare)) × (mostNotes ≤ length (now words)) ⌝ }
+    ensures { λ r. ⌜ Generates noteOfWord (now (words .exit)) (on (Path.generate g) d) mostNotes r ⌝ }
 {
     let tally = d.tally;
     let ask = Ask { tally, g };

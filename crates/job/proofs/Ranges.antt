@@ -7,6 +7,7 @@ use lib.Dec.{lit≤}
 use lib.IntN.{pos}
 use lib.ListN.{length}
 use lib.Ieee.{Float, binary64, ofInt, round}
+use Rattle.model.specs.Limits.{mostRepeats, mostEntries, latestStart}
 use Rattle.floats.specs.Laws.Values.{Sized, sized}
 use Rattle.floats.specs.Laws.Spans.{AtLeast, up-to, at-least}
 use Rattle.floats.specs.Laws.Integers.{int-value}
@@ -34,19 +35,19 @@ FitDistance (Given d) = Span 131072 d
 
 abbrev pub FitKind : Kind → Type 0
 FitKind Circle = Unit {0}
-FitKind (Slider repeats distance node) = (repeats ≤ 1023) × FitDistance distance
-FitKind (Spinner d) = Span 16777215 d
-FitKind (Hold d) = Span 16777215 d
+FitKind (Slider repeats distance node) = (repeats ≤ mostRepeats) × FitDistance distance
+FitKind (Spinner d) = Span latestStart d
+FitKind (Hold d) = Span latestStart d
 
 abbrev pub FitObject : Object → Type 0
-FitObject o = Span 16777215 (o .start) × FitKind (o .kind)
+FitObject o = Span latestStart (o .start) × FitKind (o .kind)
 
 pub record FitSong (s : Song) : Type 0 where
   pub objects : Each FitObject (s .objects)
   pub beats : Each (λ (t : TimingPoint). Span 60000 (t .beat)) (s .timingPoints)
   pub velocities : Each (λ (t : DifficultyPoint). AtLeast 10 (t .velocity)) (s .difficultyPoints)
   pub multiplier : AtLeast 3 (s .settings .multiplier)
-  pub few : length (s .objects) ≤ 4095
+  pub few : length (s .objects) ≤ mostEntries
 
 -- ---- ranges as fractions
 
@@ -78,11 +79,11 @@ fit-distance (Given d) h = from-to 0 131072 d (lit≤ tt) (lit≤ tt) h
 fit-kind : (k : Kind) → Fit.FitKind k → FitKind k
 fit-kind Circle h = tt
 fit-kind (Slider repeats distance node) h = (omega (arith, h .0), fit-distance distance (h .1))
-fit-kind (Spinner d) h = from-to 0 16777215 d (lit≤ tt) (lit≤ tt) h
-fit-kind (Hold d) h = from-to 0 16777215 d (lit≤ tt) (lit≤ tt) h
+fit-kind (Spinner d) h = from-to 0 latestStart d (lit≤ tt) (lit≤ tt) h
+fit-kind (Hold d) h = from-to 0 latestStart d (lit≤ tt) (lit≤ tt) h
 
 fit-object : (o : Object) → Fit.FitObject o → FitObject o
-fit-object o h = (from-to 0 16777215 (o .start) (lit≤ tt) (lit≤ tt) (h .start), fit-kind (o .kind) (h .kind))
+fit-object o h = (from-to 0 latestStart (o .start) (lit≤ tt) (lit≤ tt) (h .start), fit-kind (o .kind) (h .kind))
 
 pub fit-song : (s : List ℕ) (g : Song) → parse s ≡ accepted g → FitSong g
 fit-song s g e =

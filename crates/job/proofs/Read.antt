@@ -10,6 +10,7 @@ use borrow.Author.Tests.{ltb-true}
 use lib.ListN.{length, take, drop, length-append, length-drop}
 use lib.Seq.{take-at}
 use lib.Ieee.{Float}
+use Rattle.model.specs.Limits.{mostRepeats, mostSpans, mostNotes, mostEntries, latestStart}
 use Rattle.rules.specs.Rule.{Outcome, ended, run, taken, Done}
 use Rattle.rules.specs.Rule as Rule
 use Rattle.rules.specs.Laws.Each.{each-append}
@@ -47,7 +48,7 @@ use Rattle.job.proofs.Sliders.{beat-at, velocity-at, not-before}
 
 -- ---- the notes that can come from the objects of an accepted record
 
-kind-fine : (columns : ℕ) (s : Song) (difficulty : Float) (d : Density) (o : Object) (k : Kind) → FitSong s → Span 16777215 (o .start) → FitKind k
+kind-fine : (columns : ℕ) (s : Song) (difficulty : Float) (d : Density) (o : Object) (k : Kind) → FitSong s → Span latestStart (o .start) → FitKind k
     → Fine (Okay columns) (factsAt s difficulty d o) columns o k
 unfolding factsAt
 kind-fine columns s difficulty d o Circle fit h g = circle-notes columns (o .start) h
@@ -59,7 +60,7 @@ kind-fine columns s difficulty d o (Slider repeats distance node) fit h g =
       λ c on late. bar-notes columns c _ _ on (le-refl _) (le-trans later late),
     )
   where
-    spans : (n : ℕ) → n ≤ 1023 → n + 1 ≤ 1024
+    spans : (n : ℕ) → n ≤ mostRepeats → n + 1 ≤ mostSpans
     spans n h = omega arith
 kind-fine columns s difficulty d o (Spinner duration) fit h g = end-notes columns o duration h g
 kind-fine columns s difficulty d o (Hold duration) fit h g = end-notes columns o duration h g
@@ -122,7 +123,7 @@ module _ (s buffer : List ℕ) (r : Song) (e : parse s ≡ accepted r) (a n : �
       below (length (inWalkOrder nss)) (length (r .objects))
       (ended-few r buffer (few-columns r (accepted-keys s r e)) (objects-in-range s r e) a n nss u) (fit .few)
     where
-      below : (k n : ℕ) → k ≤ 2050 * n → n ≤ 4095 → k < 2 ^ 24
+      below : (k n : ℕ) → k ≤ mostNotes * n → n ≤ mostEntries → k < 2 ^ 24
       below k n h l = omega arith
 
   module _ (small : a < 2 ^ 32) where

@@ -6,6 +6,7 @@ use mathlib.Core.List.{List, [], _∷_}
 use lib.Dec.{lit≤}
 use lib.Ieee.{Float, binary64, round, le}
 use lib.Ieee.Fits.{round-fits}
+use Rattle.model.specs.Limits.{mostSpans}
 use Rattle.rules.specs.Rule.{if_then_else_}
 use Rattle.floats.specs.Laws.Values.{UpTo}
 use Rattle.floats.specs.Laws.Spans.{AtLeast}
@@ -64,6 +65,6 @@ unfolding distanceOf
 distance-upto D.Missing h = whole-upto binary64 0 131072 (lit≤ tt) (lit≤ tt)
 distance-upto (D.Given d) h = h .range
 
-pub not-before : (f : Facts) (o : Object) (spans : ℕ) (distance : Distance) → spans ≤ 1024 → FitDistance distance → AtLeast 10 (f .velocity) → Span 60000 (f .beat) → AtLeast 3 (f .multiplier)
+pub not-before : (f : Facts) (o : Object) (spans : ℕ) (distance : Distance) → spans ≤ mostSpans → FitDistance distance → AtLeast 10 (f .velocity) → Span 60000 (f .beat) → AtLeast 3 (f .multiplier)
     → startTime o ≤ endTime f o spans distance
 not-before f o spans distance n d v b m = Times.not-before f o spans distance n (distance-upto distance d) v (b .range) m

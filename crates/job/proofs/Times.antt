@@ -14,6 +14,7 @@ use lib.Ieee.Exact.{HasValue}
 use lib.Ieee.Back.{round-whole}
 use lib.Ieee.Positive.{num, den, den-pos, value→cross}
 use borrow.Author.Tests.{lt-ltb, le-leb, eqb-false}
+use Rattle.model.specs.Limits.{latestStart, latestEnd}
 use Rattle.rules.specs.Rule.{if_then_else_}
 use Rattle.floats.specs.Laws.Values.{Sized, UpTo, sized, rest-sized, end-at-most}
 use Rattle.floats.specs.Laws.Ranges.{le-sizes}
@@ -104,13 +105,13 @@ either : (columns : ℕ) (b : Bool) (n m : Note) → (b ≡ true → Okay column
 either columns true n m h k = h refl
 either columns false n m h k = k refl
 
-early : (t : ℕ) → t ≤ 16777215 * 2 ^ 1074 → t ≤ latest
+early : (t : ℕ) → t ≤ latestStart * 2 ^ 1074 → t ≤ latest
 early t h = le-trans h (lit≤ tt)
 
 -- ---- a circle
 
-pub circle-notes : (columns : ℕ) (x : Float) → Span 16777215 x → (c : ℕ) → c < columns → Okay columns (circle c x)
-circle-notes columns x h c on = circle-okay columns c on x (h .exact) (h .range .size) (early (ticks x) (ticks-at-most 16777215 x h))
+pub circle-notes : (columns : ℕ) (x : Float) → Span latestStart x → (c : ℕ) → c < columns → Okay columns (circle c x)
+circle-notes columns x h c on = circle-okay columns c on x (h .exact) (h .range .size) (early (ticks x) (ticks-at-most latestStart x h))
 
 -- ---- a note that ends with a spinner or a hold
 
@@ -124,13 +125,13 @@ some-part N D zero E e d h l =
     omega (arith, zero-mul D)
 some-part N D (suc M) E e d h l = omega arith
 
-module _ (columns : ℕ) (o : Object) (duration : Float) (h : Span 16777215 (o .start)) (k : Span 16777215 duration) where
+module _ (columns : ℕ) (o : Object) (duration : Float) (h : Span latestStart (o .start)) (k : Span latestStart duration) where
   abbrev r : Float
   r = EndTimeObject.lasting o duration
 
   r-sized : Sized r
   unfolding EndTimeObject.lasting
-  r-sized = rest-sized binary64 (o .start) duration (h .exact) (h .range .size) (k .range .size) 16777215 16777215 (h .range .high) (k .range .high) (lit< tt)
+  r-sized = rest-sized binary64 (o .start) duration (h .exact) (h .range .size) (k .range .size) latestStart latestStart (h .range .high) (k .range .high) (lit< tt)
 
   r-fits : T (fits binary64 r)
   unfolding EndTimeObject.lasting
@@ -139,9 +140,9 @@ module _ (columns : ℕ) (o : Object) (duration : Float) (h : Span 16777215 (o .
   r-ends : ticks (o .start) + ticks r ≤ latest
   unfolding EndTimeObject.lasting
   r-ends =
-      bound-two (num (o .start)) (den (o .start)) (ticks (o .start)) (num r) (den r) (ticks r) (2 ^ 1074) 33554431 (den-pos (o .start)) (den-pos r)
+      bound-two (num (o .start)) (den (o .start)) (ticks (o .start)) (num r) (den r) (ticks r) (2 ^ 1074) latestEnd (den-pos (o .start)) (den-pos r)
       (ticks-cross (o .start) (h .exact) (h .range .size)) (ticks-cross r r-fits r-sized)
-      (end-at-most binary64 (o .start) duration (h .exact) (h .range .size) (k .range .size) 16777215 16777215 (h .range .high) (k .range .high) (lit< tt))
+      (end-at-most binary64 (o .start) duration (h .exact) (h .range .size) (k .range .size) latestStart latestStart (h .range .high) (k .range .high) (lit< tt))
 
   r-lasts : le (double 100 1) r ≡ true → lasts true (toBits binary64 r) ≡ true
   unfolding lasts
@@ -176,14 +177,14 @@ int-some n p h =
     go zero D e d = let z : 0 < n * D = mul-pos p d in omega arith
     go (suc N) D e d = omega arith
 
-module _ (columns c t e : ℕ) (on : c < columns) (l : t ≤ e) (m : e ≤ 33554431) where
-  small : (n : ℕ) → n ≤ 33554431 → n ≤ 2 ^ 53
+module _ (columns c t e : ℕ) (on : c < columns) (l : t ≤ e) (m : e ≤ latestEnd) where
+  small : (n : ℕ) → n ≤ latestEnd → n ≤ 2 ^ 53
   small n h = le-trans h (lit≤ tt)
 
-  t-le : t ≤ 33554431
+  t-le : t ≤ latestEnd
   t-le = le-trans l m
 
-  d-le : e - t ≤ 33554431
+  d-le : e - t ≤ latestEnd
   d-le = omega arith
 
   at : Span t (double# t)
@@ -192,7 +193,7 @@ module _ (columns c t e : ℕ) (on : c < columns) (l : t ≤ e) (m : e ≤ 33554
   for : Span (e - t) (double# (e - t))
   for = int-span (e - t) (small (e - t) d-le)
 
-  sum : (a b k : ℕ) → a ≤ t * k → b ≤ (e - t) * k → a + b ≤ 33554431 * k
+  sum : (a b k : ℕ) → a ≤ t * k → b ≤ (e - t) * k → a + b ≤ latestEnd * k
   sum a b k p q =
       let z : t + (e - t) ≡ e = omega arith in
       let w : t * k + (e - t) * k ≡ e * k = sym (add-mul t (e - t) k) ∙ ap (λ (i : ℕ). i * k) z in

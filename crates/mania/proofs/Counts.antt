@@ -9,6 +9,7 @@ use lib.Dec.{eqb, leb, ltb, lit≤}
 use lib.Ieee.{Float, lt}
 use lib.ListN.{length, length-append}
 use borrow.Author.Tests.{leb-false, ltb-false}
+use Rattle.model.specs.Limits.{mostRepeats, mostSpans, mostRows, mostNotes, mostLongSpans}
 use Rattle.rules.specs.Rule.{if_then_else_, Rule, give, refuse, draw, drawUntil, _>>=_, ended}
 use Rattle.random.specs.Generator.{seeded}
 use Rattle.mania.specs.declared.Facts.{Facts}
@@ -41,6 +42,7 @@ use Rattle.mania.proofs.Demand.{spans-fit, some-spans, some-columns}
 use Rattle.mania.proofs.Pigeons.{pigeons}
 use Rattle.mania.proofs.CircleLanes.{circle-differ}
 use Rattle.mania.proofs.SliderLanes as Lanes
+use Rattle.chart.specs.Layout.{chartSize}
 
 -- nothing is said of what a rule gives
 nothing : {W R A : Type 0} (m : Rule W R A) → Gives (λ a. Unit {0}) m
@@ -118,9 +120,9 @@ module _ (g : PathObjectPatternGenerator) where
 
   -- ---- the branches
 
-  module _ (deck : g .columns ≤ 9) (spans : g .spans ≤ 1024) (late : g .end ≤ 2 ^ 53) (fits : 0 < g .length → g .start + g .length * g .spans ≤ g .end) where
+  module _ (deck : g .columns ≤ 9) (spans : g .spans ≤ mostSpans) (late : g .end ≤ 2 ^ 53) (fits : 0 < g .length → g .start + g .length * g .spans ≤ g .end) where
     abbrev N : ℕ
-    N = 2050
+    N = mostNotes
 
     abbrev B : SliderNote → Type 0
     B b = b .column < g .columns
@@ -138,32 +140,32 @@ module _ (g : PathObjectPatternGenerator) where
     unfolding PathObject.generateNRandomNotes
     chance-few c = seq any (λ n u. hold-few n)
 
-    row-notes-few : (kind n : ℕ) → n ≤ 1025 → Makes (Few N) (PathObject.generateRandomNotes g kind n)
+    row-notes-few : (kind n : ℕ) → n ≤ mostRows → Makes (Few N) (PathObject.generateRandomNotes g kind n)
     unfolding PathObject.generateRandomNotes empty
     row-notes-few kind n h = seq any (λ c u. less (row-few n (g .start) c empty) (λ p k. le-trans k (small n h)))
       where
-        small : (n : ℕ) → n ≤ 1025 → 0 + n ≤ 2050
+        small : (n : ℕ) → n ≤ mostRows → 0 + n ≤ mostNotes
         small n h = omega arith
 
-    rows-of : g .spans + 1 ≤ 1025
+    rows-of : g .spans + 1 ≤ mostRows
     rows-of = omega arith
 
     stair-notes-few : Makes (Few N) (PathObject.generateStair g)
     unfolding PathObject.generateStair empty
     stair-notes-few = seq any (λ v u. less (stair-few _ _ _ _ empty) (λ p k. le-trans k (small (g .spans + 1) rows-of)))
       where
-        small : (n : ℕ) → n ≤ 1025 → 0 + n ≤ 2050
+        small : (n : ℕ) → n ≤ mostRows → 0 + n ≤ mostNotes
         small n h = omega arith
 
     multiple-few : Makes (Few N) (PathObject.generateRandomMultipleNotes g)
     unfolding PathObject.generateRandomMultipleNotes empty
     multiple-few = seq any (λ v u. less (rows-few _ _ _ _ empty) (λ p k. le-trans k (small (g .spans + 1) rows-of)))
       where
-        small : (n : ℕ) → n ≤ 1025 → 0 + 2 * n ≤ 2050
+        small : (n : ℕ) → n ≤ mostRows → 0 + 2 * n ≤ mostNotes
         small n h = omega arith
 
     -- few spans of more than 160 ms lie within 4 s
-    few-spans : 160 < g .length → g .end - g .start < 4000 → g .spans ≤ 24
+    few-spans : 160 < g .length → g .end - g .start < 4000 → g .spans ≤ mostLongSpans
     few-spans l h =
         let some : 161 * g .spans ≤ g .length * g .spans = mul-le-mul-right (g .spans) l in
         let in-time : g .start + g .length * g .spans ≤ g .end = fits (positive l) in
@@ -172,7 +174,7 @@ module _ (g : PathObjectPatternGenerator) where
         positive : 160 < g .length → 0 < g .length
         positive l = omega arith
 
-        go : (m n : ℕ) → 161 * n ≤ m → g .start + m ≤ g .end → n ≤ 24
+        go : (m n : ℕ) → 161 * n ≤ m → g .start + m ≤ g .end → n ≤ mostLongSpans
         go m n p q = omega arith
 
     hold-and-normal-few : 160 < g .length → g .end - g .start < 4000 → Makes (Few N) (PathObject.generateHoldAndNormalNotes g)
@@ -182,13 +184,13 @@ module _ (g : PathObjectPatternGenerator) where
         (λ n u. less (besides-few hold _ (min n (g .columns - 1)) (g .spans + 1) (g .start) c p)
         (λ q k. bound (length (p .notes)) (length (q .notes)) (g .spans + 1) (min n (g .columns - 1)) i k (rows (g .spans) (few-spans l h)) (wide n (g .columns) deck))))))
       where
-        rows : (n : ℕ) → n ≤ 24 → n + 1 ≤ 25
+        rows : (n : ℕ) → n ≤ mostLongSpans → n + 1 ≤ 25
         rows n h = omega arith
 
         wide : (n t : ℕ) → t ≤ 9 → min n (t - 1) ≤ 8
         wide n t h = omega arith
 
-        bound : (a b n k : ℕ) → a ≡ 0 + 1 → b ≤ a + n * k → n ≤ 25 → k ≤ 8 → b ≤ 2050
+        bound : (a b n k : ℕ) → a ≡ 0 + 1 → b ≤ a + n * k → n ≤ 25 → k ≤ 8 → b ≤ mostNotes
         bound a b n k i h p q = omega (arith, mul-le-mul-right k p, mul-le-mul-left 25 q)
 
     spans-few : Makes (Few N) (PathObject.generateSpans g)
@@ -210,7 +212,7 @@ module _ (g : PathObjectPatternGenerator) where
     unfolding PathObject.generateSpan
     span-few = by (leb (g .length) 110) _ _ (λ e. row-notes-few _ _ (two (leb 80 (g .length)))) (λ e. chance-few _)
       where
-        two : (b : Bool) → (if b then 2 else 1) ≤ 1025
+        two : (b : Bool) → (if b then 2 else 1) ≤ mostRows
         two true = lit≤ tt
         two false = lit≤ tt
 
@@ -220,7 +222,7 @@ module _ (g : PathObjectPatternGenerator) where
         by (eqb (g .columns) 1) _ _ (λ e. less (one-more _ _ _ empty) (λ p k. small _ k))
         (λ e. by (ltb 1 (g .spans)) _ _ (λ e. spans-few) (λ e. span-few))
       where
-        small : (a : ℕ) → a ≡ 0 + 1 → a ≤ 2050
+        small : (a : ℕ) → a ≡ 0 + 1 → a ≤ mostNotes
         small a e = omega arith
 
 -- ---- the split keeps the number
@@ -259,47 +261,47 @@ split-few g p = go (eqb (length (p .notes)) 1)
         ∙ ap (λ (xs : List SliderNote). length (PathObject.others (g .end) (p .notes)) + length xs) (ending-kept (g .end) (p .notes) empty)
         ∙ split-lengths (g .end) (p .notes)
 
-slider-few : (g : PathObjectPatternGenerator) → g .columns ≤ 9 → g .spans ≤ 1024 → (0 < g .length → g .start + g .length * g .spans ≤ g .end)
-    → Makes (λ made. length (made .notes) ≤ 2050) (PathObject.generate g)
+slider-few : (g : PathObjectPatternGenerator) → g .columns ≤ 9 → g .spans ≤ mostSpans → (0 < g .length → g .start + g .length * g .spans ≤ g .end)
+    → Makes (λ made. length (made .notes) ≤ mostNotes) (PathObject.generate g)
 unfolding PathObject.generate
 slider-few g deck spans fits =
     by (ltb PathObject.latest (g .end)) _ _ (λ e. refusing)
-    (λ e. seq (core-few g deck spans (le-trans (ltb-false PathObject.latest (g .end) e) (lit≤ tt)) fits) (λ p h. giving (subst (λ (n : ℕ). n ≤ 2050) (sym (split-few g p)) h)))
+    (λ e. seq (core-few g deck spans (le-trans (ltb-false PathObject.latest (g .end) e) (lit≤ tt)) fits) (λ p h. giving (subst (λ (n : ℕ). n ≤ mostNotes) (sym (split-few g p)) h)))
 
 -- ---- of each object, and of a walk
 
-end-few : (v : PrevValues) (columns : ℕ) (o : Object) (duration : Float) → Makes (λ made. length (made .notes) ≤ 2050) (EndTimeObject.generate v columns o duration)
+end-few : (v : PrevValues) (columns : ℕ) (o : Object) (duration : Float) → Makes (λ made. length (made .notes) ≤ mostNotes) (EndTimeObject.generate v columns o duration)
 unfolding EndTimeObject.generate put empty
 end-few v columns o duration =
-    seq any (λ c u. seq {P = λ p. length (p .notes) ≤ 2050} (added columns _ c empty (λ on. lit≤ tt)) (λ p h. giving h))
+    seq any (λ c u. seq {P = λ p. length (p .notes) ≤ mostNotes} (added columns _ c empty (λ on. lit≤ tt)) (λ p h. giving h))
 
 module _ (columns : ℕ) (some : 1 ≤ columns) (deck : columns ≤ 9) where
-  circle-few : (f : Facts) (v : PrevValues) (o : Object) → Makes (λ made. length (made .notes) ≤ 2050) (HitObject.generate (HitObject.new f v columns o))
+  circle-few : (f : Facts) (v : PrevValues) (o : Object) → Makes (λ made. length (made .notes) ≤ mostNotes) (HitObject.generate (HitObject.new f v columns o))
   unfolding HitObject.new circle
   circle-few f v o =
       less (circle-differ (HitObject.new f v columns o) (λ n. n .column < columns) (λ c l. l) some)
       (λ made h. le-trans (pigeons (λ (n : Note). n .column) columns (made .notes) (h .0) (h .1)) (le-trans deck (lit≤ tt)))
 
-  kind-few : (f : Facts) (v : PrevValues) (o : Object) (k : Kind) → FewRepeats k → Makes (λ made. length (made .notes) ≤ 2050) (byKind f v columns o k)
+  kind-few : (f : Facts) (v : PrevValues) (o : Object) (k : Kind) → FewRepeats k → Makes (λ made. length (made .notes) ≤ mostNotes) (byKind f v columns o k)
   unfolding byKind PathObject.new PathObject.spanLength
   kind-few f v o Circle h = circle-few f v o
   kind-few f v o (Slider repeats distance node) h =
       slider-few (PathObject.new f v columns o repeats distance node) deck (more repeats h)
       (λ l. spans-fit (PathObject.startTime o) (PathObject.endTime f o (repeats + 1) distance) (repeats + 1) (some-spans repeats) l)
     where
-      more : (n : ℕ) → n ≤ 1023 → n + 1 ≤ 1024
+      more : (n : ℕ) → n ≤ mostRepeats → n + 1 ≤ mostSpans
       more n h = omega arith
   kind-few f v o (Spinner duration) h = end-few v columns o duration
   kind-few f v o (Hold duration) h = end-few v columns o duration
 
-  object-few : (room : ℕ) (f : Facts) (w : Walk) (o : Object) → FewRepeats (o .kind) → Makes (λ made. length (made .notes) ≤ 2050) (Convert.objectIn columns room f w o)
+  object-few : (room : ℕ) (f : Facts) (w : Walk) (o : Object) → FewRepeats (o .kind) → Makes (λ made. length (made .notes) ≤ mostNotes) (Convert.objectIn columns room f w o)
   unfolding Convert.objectIn object
   object-few room f w o h =
       seq (kind-few f (w .prev) o (o .kind) h)
-      (λ made h. by (ltb room (8 + 17 * (w .notes + length (made .notes)))) _ _ (λ e. refusing) (λ e. giving h))
+      (λ made h. by (ltb room (chartSize (w .notes + length (made .notes)))) _ _ (λ e. refusing) (λ e. giving h))
 
   walk-few : (s : Song) (difficulty : Float) (room i : ℕ) (w : Walk) (os : List Object) → Each InRange os
-      → Makes (λ nss. length (inWalkOrder nss) ≤ 2050 * length os) (Convert.walk s difficulty columns room i w os)
+      → Makes (λ nss. length (inWalkOrder nss) ≤ mostNotes * length os) (Convert.walk s difficulty columns room i w os)
   unfolding Convert.walk inWalkOrder
   walk-few s difficulty room i w [] h = giving (omega arith)
   walk-few s difficulty room i w (o ∷ os) h =
@@ -309,35 +311,35 @@ module _ (columns : ℕ) (some : 1 ≤ columns) (deck : columns ≤ 9) where
       (λ made k. seq (walk-few s difficulty room (suc i) (Convert.afterObject f o d made w) os (h .1))
       (λ rest l. giving (more (length (made .notes)) (length (inWalkOrder rest)) (length os) k l (length-append (made .notes) (inWalkOrder rest)))))
     where
-      more : (a b n : ℕ) {c : ℕ} → a ≤ 2050 → b ≤ 2050 * n → c ≡ a + b → c ≤ 2050 * suc n
+      more : (a b n : ℕ) {c : ℕ} → a ≤ mostNotes → b ≤ mostNotes * n → c ≡ a + b → c ≤ mostNotes * suc n
       more a b n h k e = omega arith
 
 convert-few : (s : Song) (room : ℕ) → columnsOf s ≤ 9 → Each InRange (s .objects)
-    → Makes (λ nss. length (inWalkOrder nss) ≤ 2050 * length (s .objects)) (convert s room)
+    → Makes (λ nss. length (inWalkOrder nss) ≤ mostNotes * length (s .objects)) (convert s room)
 unfolding convert
 convert-few s room deck h = by (ltb room 8) _ _ (λ e. refusing) (λ e. walk-few (columnsOf s) (some-columns s) deck s _ room 0 _ (s .objects) h)
 
 -- the number of an accepted job's notes
 pub ended-few : (s : Song) (buffer : List ℕ) → columnsOf s ≤ 9 → Each InRange (s .objects) → (a n : ℕ) (nss : List (List Note)) → under s buffer a ≡ ended nss n
-    → length (inWalkOrder nss) ≤ 2050 * length (s .objects)
+    → length (inWalkOrder nss) ≤ mostNotes * length (s .objects)
 unfolding under
 ended-few s buffer deck h a n nss e = ran _ (convert s (length buffer)) (convert-few s (length buffer) deck h .made) (seeded (seed (s .settings))) a nss n e
 
 -- ---- and they have room
 
 module _ (columns : ℕ) where
-  object-room : (room : ℕ) (f : Facts) (w : Walk) (o : Object) → Makes (λ made. 8 + 17 * (w .notes + length (made .notes)) ≤ room) (Convert.objectIn columns room f w o)
+  object-room : (room : ℕ) (f : Facts) (w : Walk) (o : Object) → Makes (λ made. chartSize (w .notes + length (made .notes)) ≤ room) (Convert.objectIn columns room f w o)
   unfolding Convert.objectIn
   object-room room f w o =
       seq any
-      (λ made u. by (ltb room (8 + 17 * (w .notes + length (made .notes)))) _ _ (λ e. refusing) (λ e. giving (ltb-false room (8 + 17 * (w .notes + length (made .notes))) e)))
+      (λ made u. by (ltb room (chartSize (w .notes + length (made .notes)))) _ _ (λ e. refusing) (λ e. giving (ltb-false room (chartSize (w .notes + length (made .notes))) e)))
 
-  walk-room : (s : Song) (difficulty : Float) (room i : ℕ) (w : Walk) (os : List Object) → 8 + 17 * w .notes ≤ room
-      → Makes (λ nss. 8 + 17 * (w .notes + length (inWalkOrder nss)) ≤ room) (Convert.walk s difficulty columns room i w os)
+  walk-room : (s : Song) (difficulty : Float) (room i : ℕ) (w : Walk) (os : List Object) → chartSize (w .notes) ≤ room
+      → Makes (λ nss. chartSize (w .notes + length (inWalkOrder nss)) ≤ room) (Convert.walk s difficulty columns room i w os)
   unfolding Convert.walk Convert.afterObject Convert.walkAfter inWalkOrder
   walk-room s difficulty room i w [] h = giving (empty-room (w .notes) h)
     where
-      empty-room : (n : ℕ) → 8 + 17 * n ≤ room → 8 + 17 * (n + 0) ≤ room
+      empty-room : (n : ℕ) → chartSize n ≤ room → chartSize (n + 0) ≤ room
       empty-room n h = omega arith
   walk-room s difficulty room i w (o ∷ os) h =
       let d = Convert.meets (o .kind) (o .start) (w .density) in
@@ -346,22 +348,22 @@ module _ (columns : ℕ) where
       (λ made k. seq (walk-room s difficulty room (suc i) (Convert.afterObject f o d made w) os k)
       (λ rest l. giving (more (w .notes) (length (made .notes)) (length (inWalkOrder rest)) l (length-append (made .notes) (inWalkOrder rest)))))
     where
-      more : (a b c : ℕ) {n : ℕ} → 8 + 17 * (a + b + c) ≤ room → n ≡ b + c → 8 + 17 * (a + n) ≤ room
+      more : (a b c : ℕ) {n : ℕ} → chartSize (a + b + c) ≤ room → n ≡ b + c → chartSize (a + n) ≤ room
       more a b c h e = omega arith
 
-convert-room : (s : Song) (room : ℕ) → Makes (λ nss. 8 + 17 * length (inWalkOrder nss) ≤ room) (convert s room)
+convert-room : (s : Song) (room : ℕ) → Makes (λ nss. chartSize (length (inWalkOrder nss)) ≤ room) (convert s room)
 unfolding convert Convert.beginning
 convert-room s room =
     by (ltb room 8) _ _ (λ e. refusing)
     (λ e. less (walk-room (columnsOf s) s _ room 0 Convert.beginning (s .objects) (start (ltb-false room 8 e))) (λ nss h. same (length (inWalkOrder nss)) h))
   where
-    start : 8 ≤ room → 8 + 17 * 0 ≤ room
+    start : 8 ≤ room → chartSize 0 ≤ room
     start h = omega arith
 
-    same : (k : ℕ) → 8 + 17 * (0 + k) ≤ room → 8 + 17 * k ≤ room
+    same : (k : ℕ) → chartSize (0 + k) ≤ room → chartSize k ≤ room
     same k h = omega arith
 
 -- the chart of an accepted job fits the buffer
-pub ended-room : (s : Song) (buffer : List ℕ) (a n : ℕ) (nss : List (List Note)) → under s buffer a ≡ ended nss n → 8 + 17 * length (inWalkOrder nss) ≤ length buffer
+pub ended-room : (s : Song) (buffer : List ℕ) (a n : ℕ) (nss : List (List Note)) → under s buffer a ≡ ended nss n → chartSize (length (inWalkOrder nss)) ≤ length buffer
 unfolding under
 ended-room s buffer a n nss e = ran _ (convert s (length buffer)) (convert-room s (length buffer) .made) (seeded (seed (s .settings))) a nss n e

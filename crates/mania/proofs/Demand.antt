@@ -37,6 +37,7 @@ use Rattle.mania.proofs.CircleLanes.{circle-lanes}
 use Rattle.mania.proofs.SliderLanes.{slider-lanes}
 use Rattle.mania.proofs.EndLanes.{end-lanes}
 use Rattle.mania.proofs.Bars.{note-column}
+use Rattle.chart.specs.Layout.{chartSize}
 
 -- the spans of a slider lie before its end
 pub spans-fit : (s e n : ℕ) → 0 < n → 0 < (e - s) / n → s + (e - s) / n * n ≤ e
@@ -84,7 +85,7 @@ module _ (P : Note → Type 0) (columns : ℕ) (t : 1 ≤ columns) where
   unfolding Convert.objectIn
   object-in-notes room f w o h =
       seq (object-notes f (w .prev) o h)
-      (λ made h. by (ltb room (8 + 17 * (w .notes + length (made .notes)))) _ _ (λ e. refusing) (λ e. giving h))
+      (λ made h. by (ltb room (chartSize (w .notes + length (made .notes)))) _ _ (λ e. refusing) (λ e. giving h))
 
   -- of each object of a walk
   walk-notes : (s : Song) (difficulty : Float) (room i : ℕ) (w : Walk) (os : List Object)

@@ -39,6 +39,7 @@ use Rattle.mania.proofs.Conditions.{object-left, undrawn-8}
 use Rattle.mania.proofs.Demand.{some-columns}
 use Rattle.mania.proofs.Reach.{convert-ends}
 use Rattle.mania.proofs.Eleven.{kind, stopAt, left, before-none, before-refused, On}
+use Rattle.chart.specs.Layout.{chartSize}
 
 abbrev said : Outcome ℕ AtObject (List (List Note)) → ℕ
 said (ended nss n) = 0
@@ -66,13 +67,13 @@ module _ (s : Song) (difficulty : Float) (columns room : ℕ) (some : 1 ≤ colu
     rule = object facts (w .prev) columns o
 
     -- after notes that have no room the walk is refused by 11
-    full : (made : Made) (f : Draws) → on rule d ≡ found made f → ltb room (8 + 17 * (w .notes + length (made .notes))) ≡ true → ⊥
+    full : (made : Made) (f : Draws) → on rule d ≡ found made f → ltb room (chartSize (w .notes + length (made .notes))) ≡ true → ⊥
     full made f u l =
         let t = sym (before-none (onWalk (walk s difficulty columns room i w (o ∷ os)) d)) ∙ walk-full s difficulty columns room i w o os d made f u l [] in
         let is : _≡_ {A = ℕ} 11 8 = ap (λ (a : Answer Stop (List (List Note))). stopAt a .number) (sym t ∙ h) in
         omega arith
 
-    later : (made : Made) (f : Draws) → on rule d ≡ found made f → ltb room (8 + 17 * (w .notes + length (made .notes))) ≡ false → Prior s difficulty columns room i w (o ∷ os) d j e
+    later : (made : Made) (f : Draws) → on rule d ≡ found made f → ltb room (chartSize (w .notes + length (made .notes))) ≡ false → Prior s difficulty columns room i w (o ∷ os) d j e
     unfolding before afterObject walkAfter
     later made f u l =
         let on-from : (os : List Object) → onWalk (walk s difficulty columns room i w (o ∷ os)) d ≡ before (made .notes ∷ []) (onWalk (walk s difficulty columns room (suc i) (afterObject facts o dens made w) os) f)
@@ -89,13 +90,13 @@ module _ (s : Song) (difficulty : Float) (columns room : ℕ) (some : 1 ≤ colu
         next : (i k : ℕ) → suc i + k ≡ i + suc k
         next i k = omega arith
 
-    found-object : (made : Made) (f : Draws) → on rule d ≡ found made f → (b : Bool) → ltb room (8 + 17 * (w .notes + length (made .notes))) ≡ b → Prior s difficulty columns room i w (o ∷ os) d j e
+    found-object : (made : Made) (f : Draws) → on rule d ≡ found made f → (b : Bool) → ltb room (chartSize (w .notes + length (made .notes))) ≡ b → Prior s difficulty columns room i w (o ∷ os) d j e
     found-object made f u true l = absurd (full made f u l)
     found-object made f u false l = later made f u l
 
     by-object : (a : Answer ℕ Made) → on rule d ≡ a → Prior s difficulty columns room i w (o ∷ os) d j e
     unfolding walk play
-    by-object (found made f) u = found-object made f u (ltb room (8 + 17 * (w .notes + length (made .notes)))) refl
+    by-object (found made f) u = found-object made f u (ltb room (chartSize (w .notes + length (made .notes)))) refl
     by-object (refused x f) u =
         let t = sym (before-none (onWalk (walk s difficulty columns room i w (o ∷ os)) d)) ∙ walk-refused s difficulty columns room i w o os d x f u [] in
         let is : x ≡ 8 = ap (λ (a : Answer Stop (List (List Note))). stopAt a .number) (sym t ∙ h) in

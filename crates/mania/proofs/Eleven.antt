@@ -38,6 +38,7 @@ use Rattle.mania.specs.Job.{under}
 use Rattle.mania.proofs.Conditions.{object-left, object-not-11}
 use Rattle.mania.proofs.Demand.{some-columns}
 use Rattle.mania.specs.Laws.Walks.{before, walk-none, walk-refused, walk-full, walk-made}
+use Rattle.chart.specs.Layout.{chartSize}
 
 abbrev pub kind : {R A : Type 0} → Answer R A → ℕ
 kind (found a e) = 0
@@ -68,8 +69,8 @@ pub record Long (s : Song) (difficulty : Float) (columns room i : ℕ) (w : Walk
   pub k : ℕ
   pub at : j ≡ i + k
   pub nss : List (List Note)
-  pub made : (wide : ℕ) → 8 + 17 * (w .notes + length (inWalkOrder nss)) ≤ wide → onWalk (walk s difficulty columns wide i w (take (suc k) os)) d ≡ found nss e
-  pub long : room < 8 + 17 * (w .notes + length (inWalkOrder nss))
+  pub made : (wide : ℕ) → chartSize (w .notes + length (inWalkOrder nss)) ≤ wide → onWalk (walk s difficulty columns wide i w (take (suc k) os)) d ≡ found nss e
+  pub long : room < chartSize (w .notes + length (inWalkOrder nss))
 
 length-one : (ns : List Note) → length (inWalkOrder (ns ∷ [])) ≡ length ns
 unfolding inWalkOrder
@@ -86,7 +87,7 @@ On columns w = (w .prev .mask < 2 ^ columns) × (w .prev .last < columns)
 module _ (s : Song) (difficulty : Float) (columns room : ℕ) (some : 1 ≤ columns) (deck : columns ≤ 9) where
   -- one object, with room enough
   wide-made : (i : ℕ) (w : Walk) (o : Object) (os : List Object) (d e : Draws) (made : Made) (wide : ℕ)
-      → on (object (factsAt s difficulty (meets (o .kind) (o .start) (w .density)) o) (w .prev) columns o) d ≡ found made e → 8 + 17 * (w .notes + length (made .notes)) ≤ wide
+      → on (object (factsAt s difficulty (meets (o .kind) (o .start) (w .density)) o) (w .prev) columns o) d ≡ found made e → chartSize (w .notes + length (made .notes)) ≤ wide
       → onWalk (walk s difficulty columns wide i w (o ∷ os)) d
       ≡ before (made .notes ∷ []) (onWalk (walk s difficulty columns wide (suc i)
       (afterObject (factsAt s difficulty (meets (o .kind) (o .start) (w .density)) o) o (meets (o .kind) (o .start) (w .density)) made w) os) e)
@@ -105,7 +106,7 @@ module _ (s : Song) (difficulty : Float) (columns room : ℕ) (some : 1 ≤ colu
     abbrev rule : ObjectRule Made
     rule = object facts (w .prev) columns o
 
-    here : (made : Made) (f : Draws) → on rule d ≡ found made f → ltb room (8 + 17 * (w .notes + length (made .notes))) ≡ true → Long s difficulty columns room i w (o ∷ os) d j e
+    here : (made : Made) (f : Draws) → on rule d ≡ found made f → ltb room (chartSize (w .notes + length (made .notes))) ≡ true → Long s difficulty columns room i w (o ∷ os) d j e
     unfolding before
     here made f u l =
         let t = sym (before-none (onWalk (walk s difficulty columns room i w (o ∷ os)) d)) ∙ walk-full s difficulty columns room i w o os d made f u l [] in
@@ -116,12 +117,12 @@ module _ (s : Song) (difficulty : Float) (columns room : ℕ) (some : 1 ≤ colu
           at = sym at ∙ sym (add-zero i);
           nss = made .notes ∷ [];
           made = λ wide m.
-              wide-made i w o [] d f made wide u (subst (λ (n : ℕ). 8 + 17 * (w .notes + n) ≤ wide) (length-one (made .notes)) m)
+              wide-made i w o [] d f made wide u (subst (λ (n : ℕ). chartSize (w .notes + n) ≤ wide) (length-one (made .notes)) m)
               ∙ walk-none s difficulty columns wide (suc i) _ (made .notes ∷ []) f ∙ ap (λ (x : Draws). found (made .notes ∷ []) x) ends;
-          long = subst (λ (n : ℕ). room < 8 + 17 * (w .notes + n)) (sym (length-one (made .notes))) (ltb-true room _ l);
+          long = subst (λ (n : ℕ). room < chartSize (w .notes + n)) (sym (length-one (made .notes))) (ltb-true room _ l);
         }
 
-    later : (made : Made) (f : Draws) → on rule d ≡ found made f → ltb room (8 + 17 * (w .notes + length (made .notes))) ≡ false → Long s difficulty columns room i w (o ∷ os) d j e
+    later : (made : Made) (f : Draws) → on rule d ≡ found made f → ltb room (chartSize (w .notes + length (made .notes))) ≡ false → Long s difficulty columns room i w (o ∷ os) d j e
     unfolding before afterObject walkAfter
     later made f u l =
         let t = sym (before-none (onWalk (walk s difficulty columns room i w (o ∷ os)) d)) ∙ walk-made s difficulty columns room i w o os d made f u l [] in
@@ -141,21 +142,21 @@ module _ (s : Song) (difficulty : Float) (columns room : ℕ) (some : 1 ≤ colu
         next : (i k : ℕ) → suc i + k ≡ i + suc k
         next i k = omega arith
 
-        first : (a b c wide : ℕ) {n : ℕ} → n ≡ b + c → 8 + 17 * (a + n) ≤ wide → 8 + 17 * (a + b) ≤ wide
+        first : (a b c wide : ℕ) {n : ℕ} → n ≡ b + c → chartSize (a + n) ≤ wide → chartSize (a + b) ≤ wide
         first a b c wide e h = omega arith
 
-        all : (a b c wide : ℕ) {n : ℕ} → n ≡ b + c → 8 + 17 * (a + n) ≤ wide → 8 + 17 * (a + b + c) ≤ wide
+        all : (a b c wide : ℕ) {n : ℕ} → n ≡ b + c → chartSize (a + n) ≤ wide → chartSize (a + b + c) ≤ wide
         all a b c wide e h = omega arith
 
-        past : (a b c : ℕ) {n : ℕ} → n ≡ b + c → room < 8 + 17 * (a + b + c) → room < 8 + 17 * (a + n)
+        past : (a b c : ℕ) {n : ℕ} → n ≡ b + c → room < chartSize (a + b + c) → room < chartSize (a + n)
         past a b c e h = omega arith
 
-    found-object : (made : Made) (f : Draws) → on rule d ≡ found made f → (b : Bool) → ltb room (8 + 17 * (w .notes + length (made .notes))) ≡ b → Long s difficulty columns room i w (o ∷ os) d j e
+    found-object : (made : Made) (f : Draws) → on rule d ≡ found made f → (b : Bool) → ltb room (chartSize (w .notes + length (made .notes))) ≡ b → Long s difficulty columns room i w (o ∷ os) d j e
     found-object made f u true l = here made f u l
     found-object made f u false l = later made f u l
 
     by-object : (a : Answer ℕ Made) → on rule d ≡ a → Long s difficulty columns room i w (o ∷ os) d j e
-    by-object (found made f) u = found-object made f u (ltb room (8 + 17 * (w .notes + length (made .notes)))) refl
+    by-object (found made f) u = found-object made f u (ltb room (chartSize (w .notes + length (made .notes)))) refl
     by-object (refused x f) u =
         let t = sym (before-none (onWalk (walk s difficulty columns room i w (o ∷ os)) d)) ∙ walk-refused s difficulty columns room i w o os d x f u [] in
         let is : x ≡ 11 = ap (λ (a : Answer Stop (List (List Note))). stopAt a .number) (sym t ∙ h) in
@@ -196,10 +197,10 @@ module _ (s : Song) (deck : columnsOf s ≤ 9) (room a i n : ℕ) where
         long = out (length (inWalkOrder (l .nss))) (l .long);
       }
     where
-      none : (wide k : ℕ) → 8 + 17 * k ≤ wide → 8 + 17 * (0 + k) ≤ wide
+      none : (wide k : ℕ) → chartSize k ≤ wide → chartSize (0 + k) ≤ wide
       none wide k h = omega arith
 
-      out : (k : ℕ) → room < 8 + 17 * (0 + k) → room < 8 + 17 * k
+      out : (k : ℕ) → room < chartSize (0 + k) → room < chartSize k
       out k h = omega arith
 
   by-room : (b : Bool) → ltb room 8 ≡ b → run (if b then refuse (at 0 tooShort) else whole room (s .objects)) (values a st) ≡ Rule.refused (at i tooShort) n → (room < 8) ⊎ TooLong s room a i n

@@ -33,6 +33,7 @@ use Rattle.mania.specs.Walked.{Stop, spentAt, refusedAt, onWalk}
 use Rattle.mania.specs.Reached.{walkTo, reaches, Follows}
 use Rattle.mania.specs.Laws.Walks.{before, walk-refused, walk-full, walk-made}
 use Rattle.mania.proofs.Eleven.{kind, left, before-none, length-more}
+use Rattle.chart.specs.Layout.{chartSize}
 
 abbrev notesIn : Answer Stop (List (List Note)) → List (List Note)
 notesIn (found nss e) = nss
@@ -70,7 +71,7 @@ module _ (s : Song) (difficulty : Float) (columns room : ℕ) where
     abbrev whole : Answer Stop (List (List Note))
     whole = onWalk (walk s difficulty columns room i w (o ∷ take k os)) d
 
-    on-from : (made : Made) (f : Draws) → on rule d ≡ found made f → (b : Bool) → ltb room (8 + 17 * (w .notes + length (made .notes))) ≡ b → Comes (suc k) w (o ∷ os) d nss e
+    on-from : (made : Made) (f : Draws) → on rule d ≡ found made f → (b : Bool) → ltb room (chartSize (w .notes + length (made .notes))) ≡ b → Comes (suc k) w (o ∷ os) d nss e
     unfolding walkTo afterObject walkAfter
     on-from made f u true l = let z : _≡_ {A = ℕ} 1 0 = ap kind (sym (sym (before-none whole) ∙ walk-full s difficulty columns room i w o (take k os) d made f u l []) ∙ h) in absurd (omega arith)
     on-from made f u false l =
@@ -83,7 +84,7 @@ module _ (s : Song) (difficulty : Float) (columns room : ℕ) where
         sum a b c h e = omega arith
 
     by-object : (a : Answer ℕ Made) → on rule d ≡ a → Comes (suc k) w (o ∷ os) d nss e
-    by-object (found made f) u = on-from made f u (ltb room (8 + 17 * (w .notes + length (made .notes)))) refl
+    by-object (found made f) u = on-from made f u (ltb room (chartSize (w .notes + length (made .notes)))) refl
     by-object (refused x f) u = let z : _≡_ {A = ℕ} 1 0 = ap kind (sym (sym (before-none whole) ∙ walk-refused s difficulty columns room i w o (take k os) d x f u []) ∙ h) in absurd (omega arith)
 
   follow : (k i : ℕ) (w : Walk) (os : List Object) (d : Draws) (nss : List (List Note)) (e : Draws) → onWalk (walk s difficulty columns room i w (take k os)) d ≡ found nss e → Comes k w os d nss e

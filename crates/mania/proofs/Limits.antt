@@ -39,6 +39,7 @@ use Rattle.mania.specs.Object.{byKind, object}
 use Rattle.mania.specs.Convert.{Walk, AtObject, at, seed, columnsOf, beginning, meets, factsAt, afterObject, objectIn, walk, convert}
 use Rattle.mania.specs.Single.{withRoom}
 use Rattle.mania.specs.Job.{under, ledgerUnder}
+use Rattle.chart.specs.Layout.{chartSize, noteSize}
 
 -- ---- the steps of such a proof
 
@@ -294,11 +295,11 @@ objects f v columns o = kinds f v columns o (o .kind)
 
 pub room-bound : (f : Facts) (v : PrevValues) (columns : ℕ) (o : Object) (room : ℕ) → Bound (withRoom f v columns o room)
 unfolding withRoom
-room-bound f v columns o room = seq (objects f v columns o) (λ m. by (ltb room (17 * length (m .notes))) _ _ (refusing refl) giving)
+room-bound f v columns o room = seq (objects f v columns o) (λ m. by (ltb room (noteSize * length (m .notes))) _ _ (refusing refl) giving)
 
 in-walk : (columns room : ℕ) (f : Facts) (w : Walk) (o : Object) → Bound (objectIn columns room f w o)
 unfolding objectIn
-in-walk columns room f w o = seq (objects f (w .prev) columns o) (λ m. by (ltb room (8 + 17 * (w .notes + length (m .notes)))) _ _ (refusing refl) giving)
+in-walk columns room f w o = seq (objects f (w .prev) columns o) (λ m. by (ltb room (chartSize (w .notes + length (m .notes)))) _ _ (refusing refl) giving)
 
 -- at an object
 abbrev LongAt : AtObject → Type 0

@@ -50,6 +50,7 @@ use Rattle.mania.proofs.Conditions.{Condition, object-ends}
 use Rattle.mania.proofs.Demand.{some-columns}
 use Rattle.mania.proofs.Singles.{checks, claims}
 use Rattle.mania.proofs.Follows.{follows}
+use Rattle.chart.specs.Layout.{chartSize}
 
 -- ---- what 13 asks, in parts
 
@@ -231,7 +232,7 @@ module _ (s : Song) (difficulty : Float) (columns room : ℕ) (some : 1 ≤ colu
       seq {P = Leaves columns}
       (labelled (InWalk s i (o ∷ os)) (λ p. i) (at i)
       (seq (object-here s i o os difficulty (w .prev) d columns before)
-      (λ made h. by (ltb room (8 + 17 * (w .notes + length (made .notes)))) _ _ (λ e. refusing (short-here s i o os i)) (λ e. giving h))))
+      (λ made h. by (ltb room (chartSize (w .notes + length (made .notes)))) _ _ (λ e. refusing (short-here s i o os i)) (λ e. giving h))))
       (λ made h. seq (less (walk-ends os (suc i) (afterObject f o d made w) (next-reached columns f o d made w some deck h)) (λ x u. u) (later s i o os)) (λ rest u. giving tt))
 
   walk-reached : (k : ℕ) (w : Walk) (os : List Object) → Reached columns (w .prev) → Makes (λ x. Reached columns (x .prev)) (walkTo s difficulty columns k w os)

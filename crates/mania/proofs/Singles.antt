@@ -43,6 +43,7 @@ use Rattle.mania.proofs.Conditions as Object
 use Rattle.mania.proofs.Conditions.{Left, object-ends, object-not-11}
 use Rattle.mania.proofs.Allowances.{not-spent}
 use Rattle.mania.proofs.Demand.{Sound, object-notes, kind-deck}
+use Rattle.chart.specs.Layout.{noteSize}
 
 abbrev kind : {S A : Type 0} → Answer S A → ℕ
 kind (found a e) = 0
@@ -106,7 +107,7 @@ module _ (f : Facts) (v : PrevValues) (columns : ℕ) (o : Object) (r : Random) 
   back-to m n l h = found-run (λ p. spentNumber) number rule d m (at n) h .0 ∙ ap (λ (k : ℕ). ended m k) (sub-sub-self l)
 
   -- after the object's rule
-  then-room : (m : Made) (e : Draws) → on rule d ≡ found m e → on roomy d ≡ on (if ltb (length buffer) (17 * length (m .notes)) then refuse tooShort else give m) e
+  then-room : (m : Made) (e : Draws) → on rule d ≡ found m e → on roomy d ≡ on (if ltb (length buffer) (noteSize * length (m .notes)) then refuse tooShort else give m) e
   unfolding withRoom
   then-room m e h = found-bind rule _ d m e h
 
@@ -118,53 +119,53 @@ module _ (f : Facts) (v : PrevValues) (columns : ℕ) (o : Object) (r : Random) 
   leftIn (found m e) = e
   leftIn (refused x e) = e
 
-  by-room : (m : Made) (e : Draws) → on rule d ≡ found m e → (b : Bool) → ltb (length buffer) (17 * length (m .notes)) ≡ b → on roomy d ≡ (if b then refused 11 e else found m e)
+  by-room : (m : Made) (e : Draws) → on rule d ≡ found m e → (b : Bool) → ltb (length buffer) (noteSize * length (m .notes)) ≡ b → on roomy d ≡ (if b then refused 11 e else found m e)
   unfolding play
   by-room m e h true l = then-room m e h ∙ rw l
   by-room m e h false l = then-room m e h ∙ rw l
 
-  made-from : (x : Answer ℕ Made) → on rule d ≡ x → (m : Made) (n : ℕ) → n ≤ a → on roomy d ≡ found m (at n) → (run rule (values a r) ≡ ended m n) × (17 * length (m .notes) ≤ length buffer)
+  made-from : (x : Answer ℕ Made) → on rule d ≡ x → (m : Made) (n : ℕ) → n ≤ a → on roomy d ≡ found m (at n) → (run rule (values a r) ≡ ended m n) × (noteSize * length (m .notes) ≤ length buffer)
   unfolding withRoom
   made-from (refused x e) u m n l h =
       let t = refused-bind rule _ d x e u in
       let z : _≡_ {A = ℕ} 1 0 = ap kind (sym t ∙ h) in
       absurd (omega arith)
-  made-from (found m' e) u m n l h = go (ltb (length buffer) (17 * length (m' .notes))) refl
+  made-from (found m' e) u m n l h = go (ltb (length buffer) (noteSize * length (m' .notes))) refl
     where
-      go : (b : Bool) → ltb (length buffer) (17 * length (m' .notes)) ≡ b → (run rule (values a r) ≡ ended m n) × (17 * length (m .notes) ≤ length buffer)
+      go : (b : Bool) → ltb (length buffer) (noteSize * length (m' .notes)) ≡ b → (run rule (values a r) ≡ ended m n) × (noteSize * length (m .notes) ≤ length buffer)
       go true t = let z : _≡_ {A = ℕ} 1 0 = ap kind (sym (by-room m' e u true t) ∙ h) in absurd (omega arith)
       go false t =
           let same = sym (by-room m' e u false t) ∙ h in
           let is-m : m' ≡ m = ap (λ (x : Answer ℕ Made). madeIn x m) same in
           let is-e : e ≡ at n = ap leftIn same in (
             back-to m n l (u ∙ ap (λ (x : Made). found x e) is-m ∙ ap (λ (x : Draws). found m x) is-e),
-            subst (λ (x : Made). 17 * length (x .notes) ≤ length buffer) is-m (ltb-false (length buffer) (17 * length (m' .notes)) t),
+            subst (λ (x : Made). noteSize * length (x .notes) ≤ length buffer) is-m (ltb-false (length buffer) (noteSize * length (m' .notes)) t),
           )
 
   short-from : (x : Answer ℕ Made) → on rule d ≡ x → (n : ℕ) → n ≤ a → on roomy d ≡ refused 11 (at n)
-      → (m : Made) × (n : ℕ) × (run rule (values a r) ≡ ended m n) × (length buffer < 17 * length (m .notes))
+      → (m : Made) × (n : ℕ) × (run rule (values a r) ≡ ended m n) × (length buffer < noteSize * length (m .notes))
   unfolding withRoom
   short-from (refused x e) u n l h =
       let t = refused-bind rule _ d x e u in
       let is : x ≡ 11 = ap said (sym t ∙ h) in
       absurd (object-not-11 f v columns o (fit .some) (fit .deck) (fit .mask) (fit .last) d e (u ∙ ap (λ (k : ℕ). refused k e) is))
-  short-from (found m e) u n l h = go (ltb (length buffer) (17 * length (m .notes))) refl
+  short-from (found m e) u n l h = go (ltb (length buffer) (noteSize * length (m .notes))) refl
     where
-      go : (b : Bool) → ltb (length buffer) (17 * length (m .notes)) ≡ b → (m : Made) × (n : ℕ) × (run rule (values a r) ≡ ended m n) × (length buffer < 17 * length (m .notes))
+      go : (b : Bool) → ltb (length buffer) (noteSize * length (m .notes)) ≡ b → (m : Made) × (n : ℕ) × (run rule (values a r) ≡ ended m n) × (length buffer < noteSize * length (m .notes))
       go true t =
           let is-e : e ≡ at n = ap leftIn (sym (by-room m e u true t) ∙ h) in
-          (m, n, back-to m n l (u ∙ ap (λ (x : Draws). found m x) is-e), ltb-true (length buffer) (17 * length (m .notes)) t)
+          (m, n, back-to m n l (u ∙ ap (λ (x : Draws). found m x) is-e), ltb-true (length buffer) (noteSize * length (m .notes)) t)
       go false t = let z : _≡_ {A = ℕ} 0 1 = ap kind (sym (by-room m e u false t) ∙ h) in absurd (omega arith)
 
   -- what was drawn is within the allowance
   within : (x : Outcome (Unit {0}) Refusal Made) → run roomy (values a r) ≡ x → Done x → taken x ≤ a
   within x u g = subst (λ (o : Outcome (Unit {0}) Refusal Made). taken o ≤ a) u (done-le roomy r a (subst Done (sym u) g))
 
-  room-made : (m : Made) (n : ℕ) → run roomy (values a r) ≡ ended m n → (run rule (values a r) ≡ ended m n) × (17 * length (m .notes) ≤ length buffer)
+  room-made : (m : Made) (n : ℕ) → run roomy (values a r) ≡ ended m n → (run rule (values a r) ≡ ended m n) × (noteSize * length (m .notes) ≤ length buffer)
   unfolding placed taken
   room-made m n u = made-from (on rule d) refl m n (within (ended m n) u tt) (play-run (λ p. spentNumber) number roomy a 0 r ∙ ap (placed (λ p. spentNumber) number a most r) u)
 
-  room-short : (n : ℕ) → run roomy (values a r) ≡ Rule.refused tooShort n → (m : Made) × (n : ℕ) × (run rule (values a r) ≡ ended m n) × (length buffer < 17 * length (m .notes))
+  room-short : (n : ℕ) → run roomy (values a r) ≡ Rule.refused tooShort n → (m : Made) × (n : ℕ) × (run rule (values a r) ≡ ended m n) × (length buffer < noteSize * length (m .notes))
   unfolding placed taken
   room-short n u = short-from (on rule d) refl n (within (Rule.refused tooShort n) u tt) (play-run (λ p. spentNumber) number roomy a 0 r ∙ ap (placed (λ p. spentNumber) number a most r) u)
 
@@ -182,7 +183,7 @@ room-ends : (f : Facts) (v : PrevValues) (columns : ℕ) (o : Object) (room : �
 unfolding withRoom
 room-ends f v columns o room h =
     Meets.seq (Meets.less (object-ends f v columns o (h .some) (h .deck) (h .mask) (h .last)) (λ m k. tt {0}) weaker)
-    (λ m u. Meets.by (ltb room (17 * length (m .notes))) _ _ (λ e. Meets.refusing tt) (λ e. Meets.giving tt))
+    (λ m u. Meets.by (ltb room (noteSize * length (m .notes))) _ _ (λ e. Meets.refusing tt) (λ e. Meets.giving tt))
   where
     weaker : (r : Refusal) → Object.Condition f v columns o (o .kind) r → Condition f v columns o r
     weaker lateEnd h = h
@@ -315,7 +316,7 @@ module _ (f : Facts) (v : PrevValues) (columns : ℕ) (o : Object) (r : Random) 
         notes = m .notes;
         count = sym is-k;
         bytes = ap (λ (x : Single). x .notes) j;
-        room = subst (λ (x : ℕ). 17 * x ≤ length buffer) is-k (own .1);
+        room = subst (λ (x : ℕ). noteSize * x ≤ length buffer) is-k (own .1);
         deck = good .1;
         lanes = good .0;
         mask-on = subst (λ (x : ℕ). x < 2 ^ columns) (ap (λ (x : ℕ × ℕ × ℕ × Stair × Random × ℕ). x .1) p) (left .1);

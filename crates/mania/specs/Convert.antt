@@ -28,6 +28,7 @@ use Rattle.mania.specs.PatternGenerator.{conversionDifficulty}
 use Rattle.mania.specs.PathObject.{spanLength}
 use Rattle.mania.specs.Made.{Made}
 use Rattle.mania.specs.Object.{object}
+use Rattle.chart.specs.Layout.{chartSize}
 
 -- ---- the seed and the columns
 
@@ -167,7 +168,7 @@ at i r = record { refusal = r; object = i }
 unfoldable pub objectIn : ℕ → ℕ → Facts → Walk → Object → ObjectRule Made
 objectIn columns room f w o = do
   made ← object f (w .prev) columns o
-  if ltb room (8 + 17 * (w .notes + length (made .notes))) then refuse tooShort else give made
+  if ltb room (chartSize (w .notes + length (made .notes))) then refuse tooShort else give made
 
 -- the notes of each object from the i-th on, in walk order
 unfoldable pub walk : Song → Float → ℕ → ℕ → ℕ → Walk → List Object → Rule ℕ AtObject (List (List Note))

@@ -8,6 +8,7 @@ use lib.Count.{ones}
 use lib.Ieee.{Float, binary64, neg, lt}
 use lib.Ieee as Ieee
 use lib.ListN.{length, getD}
+use Rattle.model.specs.Limits.{latestEnd}
 use Rattle.rules.specs.Rule.{give, refuse, _>>=_, if_then_else_}
 use Rattle.rules.specs.Refusal.{ObjectRule, lateEnd}
 use Rattle.random.specs.Generator.{between, unit}
@@ -341,7 +342,7 @@ split g p =
 
 -- the latest end of a slider
 abbrev pub latest : ℕ
-latest = 33554431
+latest = latestEnd
 
 -- `generate`: an end above the latest is refused by 8, before any draw
 unfoldable pub generate : PathObjectPatternGenerator → ObjectRule Made

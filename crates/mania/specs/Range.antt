@@ -1,5 +1,6 @@
 -- What a generator asks of an object's fields: a start of 0 to 16,777,215, and at most 1,023 repeats. Assumes nothing.
 use Prim.Native.Nat.{_≤_}
+use Rattle.model.specs.Limits.{mostRepeats, latestStart}
 use Rattle.floats.specs.Laws.Values.{UpTo}
 use Rattle.model.specs.declared.Kind.{Kind}
 use Rattle.model.specs.declared.Kind.the-variants.{Circle, Slider, Spinner, Hold}
@@ -8,10 +9,10 @@ use Rattle.model.specs.declared.Object.{Object}
 -- of a slider, its repeats
 abbrev pub FewRepeats : Kind → Type 0
 FewRepeats Circle = Unit {0}
-FewRepeats (Slider repeats distance node) = repeats ≤ 1023
+FewRepeats (Slider repeats distance node) = repeats ≤ mostRepeats
 FewRepeats (Spinner duration) = Unit {0}
 FewRepeats (Hold duration) = Unit {0}
 
 pub record InRange (o : Object) : Type 0 where
-  pub start : UpTo 16777215 (o .start)
+  pub start : UpTo latestStart (o .start)
   pub repeats : FewRepeats (o .kind)

@@ -22,6 +22,7 @@ use Rattle.model.specs.Song.{Song}
 use Rattle.mania.specs.Convert.{AtObject, seed, columnsOf, factsAt, beginning, walk}
 use Rattle.mania.specs.PatternGenerator.{conversionDifficulty}
 use Rattle.mania.specs.Chart.{inWalkOrder}
+use Rattle.chart.specs.Layout.{chartSize}
 
 -- 8: a slider ends above the latest time
 unfoldable pub Late : Facts → Object → Kind → Type 0
@@ -72,8 +73,8 @@ pub record InWalk (s : Song) (i : ℕ) (os : List Object) (r : AtObject) : Type 
 -- the room that there is
 pub record TooLong (s : Song) (room allowance i n : ℕ) : Type 0 where
   pub nss : List (List Note)
-  pub made : (wide : ℕ) → 8 + 17 * length (inWalkOrder nss) ≤ wide
+  pub made : (wide : ℕ) → chartSize (length (inWalkOrder nss)) ≤ wide
       → run (walk s (conversionDifficulty (s .settings) (s .breaks) (s .objects)) (columnsOf s) wide 0 beginning (take (suc i) (s .objects)))
       (values allowance (seeded (seed (s .settings))))
       ≡ ended nss n
-  pub long : room < 8 + 17 * length (inWalkOrder nss)
+  pub long : room < chartSize (length (inWalkOrder nss))

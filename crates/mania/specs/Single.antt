@@ -6,6 +6,7 @@ use lib.Dec.{eqb, leb, ltb}
 use lib.Ieee.{neg, le}
 use lib.Ieee.Scale.{finite}
 use lib.ListN.{length}
+use Rattle.model.specs.Limits.{mostSpans}
 use Rattle.rules.specs.Rule.{Outcome, ended, refused, spent, give, refuse, run, _>>=_, if_then_else_}
 use Rattle.rules.specs.Refusal.{Refusal, tooShort, number, spentNumber, ObjectRule}
 use Rattle.floats.specs.Range.{inRange}
@@ -27,6 +28,7 @@ use Rattle.mania.specs.Pattern.{free}
 use Rattle.mania.specs.Made.{Made}
 use Rattle.mania.specs.Object.{object}
 use Rattle.mania.specs.Chart.{body, written}
+use Rattle.chart.specs.Layout.{noteSize}
 
 -- ---- the checks, in their order
 
@@ -61,7 +63,7 @@ nodeFits (N.Given s) = ltb s 16
 -- what the kind carries
 unfoldable pub kindFits : Kind → Bool
 kindFits Circle = true
-kindFits (Slider repeats distance node) = ltb repeats 1024 && distanceFits distance && nodeFits node
+kindFits (Slider repeats distance node) = ltb repeats mostSpans && distanceFits distance && nodeFits node
 kindFits (Spinner duration) = inRange (double 0 1) (double 16777215 1) duration
 kindFits (Hold duration) = inRange (double 0 1) (double 16777215 1) duration
 
@@ -77,7 +79,7 @@ objectFits f v o =
 unfoldable pub withRoom : Facts → PrevValues → ℕ → Object → ℕ → ObjectRule Made
 withRoom f v columns o room = do
   made ← object f v columns o
-  if ltb room (17 * length (made .notes)) then refuse tooShort else give made
+  if ltb room (noteSize * length (made .notes)) then refuse tooShort else give made
 
 -- the number of the first check that fails, 0 where none does
 unfoldable pub entryRefusal : Facts → PrevValues → ℕ → Object → ℕ

@@ -23,6 +23,7 @@ use Rattle.mania.specs.Chart.{body, written}
 use Rattle.mania.specs.Single.{made, refusal, Single, withRoom, entryRefusal, singleObject}
 use Rattle.mania.specs.Refusals.{Late, Blocked, Below}
 use Rattle.mania.specs.Demand.{Each, Lanes, OnDeck}
+use Rattle.chart.specs.Layout.{noteSize}
 
 module _ (f : Facts) (v : PrevValues) (columns : ℕ) (o : Object) (r : Random) (buffer : List ℕ) where
   -- how the object's rule ends under an allowance, where the checks pass
@@ -53,7 +54,7 @@ module _ (f : Facts) (v : PrevValues) (columns : ℕ) (o : Object) (r : Random) 
     pub notes : List Note
     pub count : k ≡ length notes
     pub bytes : entry a .notes ≡ written (body notes) buffer
-    pub room : 17 * k ≤ length buffer
+    pub room : noteSize * k ≤ length buffer
     -- each lies on the deck, and no two share a lane
     pub deck : Each (OnDeck columns) notes
     pub lanes : Lanes notes
@@ -79,7 +80,7 @@ module _ (f : Facts) (v : PrevValues) (columns : ℕ) (o : Object) (r : Random) 
     -- 10: a circle in a reverse stair of 8 columns from column 0
     pub below : entryRefusal f v columns o ≡ 0 → k ≡ 10 → Below f v columns o (o .kind)
     -- 11: the object's rule makes notes, and they are longer than the buffer
-    pub short : entryRefusal f v columns o ≡ 0 → k ≡ 11 → (m : Made) × (n : ℕ) × (run (object f v columns o) (values a r) ≡ ended m n) × (length buffer < 17 * length (m .notes))
+    pub short : entryRefusal f v columns o ≡ 0 → k ≡ 11 → (m : Made) × (n : ℕ) × (run (object f v columns o) (values a r) ≡ ended m n) × (length buffer < noteSize * length (m .notes))
     -- 12: a draw was needed and none was left; the whole allowance was drawn
     pub drawn : entryRefusal f v columns o ≡ 0 → k ≡ 12 → under a ≡ spent tt a
     -- 16: one search, the last, made as many draws as it may, and needed one more

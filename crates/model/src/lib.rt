@@ -1,4 +1,5 @@
 // The data of a song, shared by the record and the conversion.
+pub mod limits;
 pub mod sound;
 
 // The settings of a song.

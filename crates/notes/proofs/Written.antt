@@ -6,6 +6,7 @@ use native.Mathlib.Omega.{arith}
 use mathlib.Core.List.{List, [], _∷_, _++_, map, map-append, map-map}
 use lib.ListN.{length, take, getD, length-map}
 use lib.Seq.{take-suc, length-take-le}
+use Rattle.chart.specs.Layout.{noteSize}
 use Rattle.chart.specs.declared.Note as Patterns
 use Rattle.chart.specs.Bytes.{splice}
 use Rattle.chart.specs.Laws.Bytes.{splice-none, splice-next, length-splice}
@@ -20,8 +21,8 @@ module _ (row : ℕ → Patterns.Note) (words : List ℕ) where
   abbrev pub sofar : ℕ → List ℕ
   sofar i = body (map row (take i words))
 
-  length-sofar : (i : ℕ) → i ≤ length words → length (sofar i) ≡ 17 * i
-  length-sofar i h = length-body (map row (take i words)) ∙ ap (λ (n : ℕ). 17 * n) (length-map (take i words) row ∙ length-take-le i words h)
+  length-sofar : (i : ℕ) → i ≤ length words → length (sofar i) ≡ noteSize * i
+  length-sofar i h = length-body (map row (take i words)) ∙ ap (λ (n : ℕ). noteSize * n) (length-map (take i words) row ∙ length-take-le i words h)
 
   sofar-more : (i : ℕ) → i < length words → sofar (i + 1) ≡ sofar i ++ noteBytes (row (getD words i 0))
   sofar-more i h =
@@ -43,13 +44,13 @@ module _ (row : ℕ → Patterns.Note) (words : List ℕ) where
 
   -- one row more
   pub put-next : {n : Patterns.Note} {t : List ℕ} (count : ℕ) (s₀ : List ℕ) (at : ℕ) (s : List ℕ) (i : ℕ) → Wrote count s₀ at s i → i < count → count ≤ length words
-      → at + 17 * count ≤ length s₀ → n ≡ row (getD words i 0) → t ≡ splice s (at + 17 * i) (noteBytes n) → Wrote count s₀ at t (i + 1)
+      → at + noteSize * count ≤ length s₀ → n ≡ row (getD words i 0) → t ≡ splice s (at + noteSize * i) (noteBytes n) → Wrote count s₀ at t (i + 1)
   put-next {n} {t} count s₀ at s i w h l r e f =
-      let j : at + 17 * i ≡ at + length (sofar i) = ap (λ (k : ℕ). at + k) (sym (length-sofar i (omega arith))) in
+      let j : at + noteSize * i ≡ at + length (sofar i) = ap (λ (k : ℕ). at + k) (sym (length-sofar i (omega arith))) in
       let is : t ≡ splice s₀ at (sofar (i + 1)) =
       f
-      ∙ ap (λ (x : List ℕ). splice x (at + 17 * i) (noteBytes n)) (w .is)
-      ∙ splice-next s₀ at (sofar i) (at + 17 * i) (noteBytes n) j (omega (arith, length-note n))
+      ∙ ap (λ (x : List ℕ). splice x (at + noteSize * i) (noteBytes n)) (w .is)
+      ∙ splice-next s₀ at (sofar i) (at + noteSize * i) (noteBytes n) j (omega (arith, length-note n))
       ∙ ap (splice s₀ at) (ap (λ (m : Patterns.Note). sofar i ++ noteBytes m) e ∙ sym (sofar-more i (omega arith))) in
       let size : length t ≡ length s₀ = ap length is ∙ length-splice s₀ at (sofar (i + 1)) (omega (arith, length-sofar (i + 1) (omega arith))) in
       record { within = omega arith; is = is; size = size }

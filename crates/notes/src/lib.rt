@@ -3,12 +3,14 @@ ghost use mathlib.Core.Path.{_≡_};
 ghost use mathlib.Core.List.{map};
 ghost use Prim.Native.Nat.{_+_, _*_, _≤_, _<_};
 ghost use lib.ListN.{length, take};
+ghost use Rattle.chart.specs.Layout.{noteSize};
 ghost use Rattle.chart.specs.Bytes.{splice};
 ghost use Rattle.mania.specs.Chart.{patternOf, body};
 ghost use Rattle.mania.specs.Made as Made;
 ghost use Rattle.slider_notes.specs.Words.{noteOfWord};
 ghost use Rattle.object.specs.Notes.{noteAt};
 ghost use Rattle.notes.specs.Columns.{inColumn};
+use chart::layout::NOTE_SIZE;
 use mania::Note;
 use model::Kind;
 use model::Object;
@@ -50,7 +52,7 @@ fn pinned(value: u64, i: usize, size: usize) -> u64
 
 // Writes the note `n` once for each of the first `count` words, in the word's column. Its times become bit patterns once, before the loop.
 fn put_in_columns(n: Note, words: &[u64], count: usize, s: &mut [u8], at: usize)
-    requires { ⌜ (count ≤ length (now words)) × (at + 17 * count ≤ length (now s)) ⌝ }
+    requires { ⌜ (count ≤ length (now words)) × (at + noteSize * count ≤ length (now s)) ⌝ }
     ensures { λ _. ⌜ now (s .exit) ≡ splice (now (s .entry)) at (body (map (inColumn n) (take count (now (words .entry))))) ⌝ }
 {
     let p = pattern_of(n);
@@ -62,29 +64,29 @@ fn put_in_columns(n: Note, words: &[u64], count: usize, s: &mut [u8], at: usize)
             start: pinned(p.start, i, words.len()),
             duration: pinned(p.duration, i, words.len()),
         };
-        chart::rows::put_note(s, at + 17 * i, row);
+        chart::rows::put_note(s, at + NOTE_SIZE * i, row);
         i += 1;
     }
 }
 
 // Writes a slider's notes: each word has its own start and end.
 fn put_slider_notes(words: &[u64], count: usize, s: &mut [u8], at: usize)
-    requires { ⌜ (count ≤ length (now words)) × (at + 17 * count ≤ length (now s)) ⌝ }
+    requires { ⌜ (count ≤ length (now words)) × (at + noteSize * count ≤ length (now s)) ⌝ }
     ensures { λ _. ⌜ now (s .exit) ≡ splice (now (s .entry)) at (body (map noteOfWord (take count (now (words .entry))))) ⌝ }
 {
     let mut i = 0;
     while i < count {
         let n = slider_notes::note_of(words[i]);
         let p = pattern_of(n);
-        chart::rows::put_note(s, at + 17 * i, p);
+        chart::rows::put_note(s, at + NOTE_SIZE * i, p);
         i += 1;
     }
 }
 
-// Writes the notes of the first `count` words, 17 bytes each, from index `at` on. All other bytes keep their values. The kinds are told apart
+// Writes the notes of the first `count` words from index `at` on. All other bytes keep their values. The kinds are told apart
 // before any loop, so that nothing depends on a duration that the kind does not have.
 pub fn put_notes(o: Object, words: &[u64], count: usize, s: &mut [u8], at: usize)
-    requires { ⌜ (count ≤ length (now words)) × (at + 17 * count ≤ length (now s)) ⌝ }
+    requires { ⌜ (count ≤ length (now words)) × (at + noteSize * count ≤ length (now s)) ⌝ }
     ensures { λ _. ⌜ now (s .exit) ≡ splice (now (s .entry)) at (body (map (noteAt o) (take count (now (words .entry))))) ⌝ }
 {
     let kind = o.kind;

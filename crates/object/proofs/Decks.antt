@@ -5,6 +5,7 @@ use mathlib.Core.List.{List}
 use native.Mathlib.Omega.{arith}
 use lib.Dec.{lit≤}
 use lib.Ieee.{Float}
+use Rattle.model.specs.Limits.{mostNotes}
 use Rattle.rules.specs.Refusal.{ObjectRule}
 use Rattle.random.specs.Play.{on}
 use Rattle.random.specs.declared.Draws.{Draws}
@@ -48,7 +49,7 @@ end-on v columns o duration l m = seq any (λ c u. seq any (λ p u. giving (l, m
 
 -- an answer that is a rule's, where the rule gives only what is on the deck
 on-deck : (columns : ℕ) (rule : ObjectRule Made) → Makes (MadeOn columns) rule → (d : Draws) (read : ℕ → Note) (exit : List ℕ) (most : ℕ) (r : ObjectEnd)
-    → Generates read exit (on rule d) most r → most ≤ 2050 → OnDeck columns r
+    → Generates read exit (on rule d) most r → most ≤ mostNotes → OnDeck columns r
 on-deck columns rule m d read exit most r h k = go r (h .says) (h .few)
   where
     go : (r : ObjectEnd) → objectEnd read exit r ≡ on rule d → noted r ≤ most → OnDeck columns r
@@ -67,10 +68,10 @@ module _ (f : Facts) (v : PrevValues) (columns : ℕ) (o : Object) (d : Draws) (
   circle-ends e low h = by-kind Circle e (h .says) (on-deck columns _ (circle-on (HitObject.new f v columns o) low) d _ words 14 r h (lit≤ tt))
 
   pub slider-ends : (repeats : ℕ) (distance : Distance) (node : NodeSound) → o .kind ≡ Slider repeats distance node → 0 < columns
-      → Generates noteOfWord words (on (PathObject.generate (PathObject.new f v columns o repeats distance node)) d) 2050 r → Ends f v columns o d words r
+      → Generates noteOfWord words (on (PathObject.generate (PathObject.new f v columns o repeats distance node)) d) mostNotes r → Ends f v columns o d words r
   unfolding noteBy byKind PathObject.new
   slider-ends repeats distance node e low h =
-      by-kind (Slider repeats distance node) e (h .says) (on-deck columns _ (slider-makes (PathObject.new f v columns o repeats distance node) low) d _ words 2050 r h (lit≤ tt))
+      by-kind (Slider repeats distance node) e (h .says) (on-deck columns _ (slider-makes (PathObject.new f v columns o repeats distance node) low) d _ words mostNotes r h (lit≤ tt))
 
   module _ (duration : Float) (l : v .last < columns) (m : v .mask < 2 ^ columns) (h : Generates (endNoteAt o duration) words (on (EndTimeObject.generate v columns o duration) d) 1 r) where
     deck : OnDeck columns r

@@ -3,6 +3,7 @@ use Prim.Native.Nat.{ℕ, _+_, _-_, _≤_}
 use native.Mathlib.Nat.{div-mul-le-self}
 use native.Mathlib.Omega.{arith}
 use lib.Ieee.Positive.{num, den, den-pos}
+use Rattle.model.specs.Limits.{mostRepeats, mostNotes, latestStart}
 use Rattle.floats.specs.Laws.Wholes.{count-le}
 use Rattle.floats.specs.Laws.Values.{UpTo}
 use Rattle.floats.specs.declared.Way.the-variants.{Even}
@@ -14,12 +15,12 @@ use Rattle.mania.specs.declared.PrevValues.{PrevValues}
 use Rattle.mania.specs.PathObject as PathObject
 use Rattle.path_object.specs.Parts.{Ready}
 
-start-early : (o : Object) → UpTo 16777215 (o .start) → PathObject.startTime o ≤ 16777215
+start-early : (o : Object) → UpTo latestStart (o .start) → PathObject.startTime o ≤ latestStart
 unfolding PathObject.startTime
-start-early o h = let x = o .start in count-le Even x (num x) (den x) 16777215 (den-pos x) (h .size) (h .high)
+start-early o h = let x = o .start in count-le Even x (num x) (den x) latestStart (den-pos x) (h .size) (h .high)
 
 module _ (f : Facts) (v : PrevValues) (columns : ℕ) (o : Object) (repeats : ℕ) (distance : Distance) (node : NodeSound) (words : ℕ) where
-  pub ready : 1 ≤ columns → columns ≤ 9 → repeats ≤ 1023 → UpTo 16777215 (o .start) → 2050 ≤ words → Ready (PathObject.new f v columns o repeats distance node) words
+  pub ready : 1 ≤ columns → columns ≤ 9 → repeats ≤ mostRepeats → UpTo latestStart (o .start) → mostNotes ≤ words → Ready (PathObject.new f v columns o repeats distance node) words
   unfolding PathObject.new PathObject.spanLength
   ready low high few start room = record {
     low = low;

@@ -2,6 +2,7 @@
 use mathlib.Core.Path.{_≡_}
 use Prim.Native.Nat.{ℕ, _^_, _≤_, _<_}
 use mathlib.Core.List.{List}
+use Rattle.model.specs.Limits.{mostNotes}
 use Rattle.random.specs.Play.{on}
 use Rattle.random.specs.declared.Draws.{Draws}
 use Rattle.model.specs.declared.Object.{Object}
@@ -21,12 +22,12 @@ pub record Asks (v : PrevValues) (columns : ℕ) (o : Object) (size spareSize : 
   pub mask : v .mask < 2 ^ columns
   pub last : v .last < columns
   pub range : InRange o
-  pub words : 2050 ≤ size
-  pub spare : 2050 ≤ spareSize
+  pub words : mostNotes ≤ size
+  pub spare : mostNotes ≤ spareSize
 
 -- at most 2,050 notes, and a pattern on the deck for the next object
 abbrev pub OnDeck : ℕ → ObjectEnd → Type 0
-OnDeck columns (E.Made p s d) = (p .count ≤ 2050) × (p .mask < 2 ^ columns) × (p .last < columns)
+OnDeck columns (E.Made p s d) = (p .count ≤ mostNotes) × (p .mask < 2 ^ columns) × (p .last < columns)
 OnDeck columns (E.Refused x d) = Unit {0}
 
 -- the answer, with the words as they are left, is what the object's rule comes to

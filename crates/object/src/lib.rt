@@ -2,6 +2,7 @@
 ghost use mathlib.Core.Path.{_≡_};
 ghost use Prim.Native.Nat.{_^_, _≤_, _<_};
 ghost use lib.ListN.{length};
+ghost use Rattle.model.specs.Limits.{latestStart, mostNotes, mostRepeats};
 ghost use Rattle.random.specs.Play.{on};
 ghost use Rattle.floats.specs.Laws.Values.{UpTo};
 ghost use Rattle.mania.specs.HitObject as HitObject;
@@ -29,7 +30,7 @@ fn generate_circle(
     spare: &mut [u64],
     d: Draws,
 ) -> ObjectEnd
-    requires { ⌜ (1 ≤ columns) × (columns ≤ 9) × (v .last < columns) × (2050 ≤ length (now words)) ⌝ }
+    requires { ⌜ (1 ≤ columns) × (columns ≤ 9) × (v .last < columns) × (mostNotes ≤ length (now words)) ⌝ }
     ensures { λ r. ⌜ Generates (circleAt (o .start)) (now (words .exit)) (on (HitObject.generate (HitObject.new f v columns o)) d) 14 r ⌝ }
 {
     let g = hit_object::new(f, v, columns, o);
@@ -49,8 +50,8 @@ fn generate_slider(
     spare: &mut [u64],
     d: Draws,
 ) -> ObjectEnd
-    requires { ⌜ (1 ≤ columns) × (columns ≤ 9) × (repeats ≤ 1023) × UpTo 16777215 (o .start) × (2050 ≤ length (now words)) × (2050 ≤ length (now spare)) ⌝ }
-    ensures { λ r. ⌜ Generates noteOfWord (now (words .exit)) (on (PathObject.generate (PathObject.new f v columns o repeats distance node)) d) 2050 r ⌝ }
+    requires { ⌜ (1 ≤ columns) × (columns ≤ 9) × (repeats ≤ mostRepeats) × UpTo latestStart (o .start) × (mostNotes ≤ length (now words)) × (mostNotes ≤ length (now spare)) ⌝ }
+    ensures { λ r. ⌜ Generates noteOfWord (now (words .exit)) (on (PathObject.generate (PathObject.new f v columns o repeats distance node)) d) mostNotes r ⌝ }
 {
     let g = slider_times::new(f, v, columns, o, repeats, distance, node);
     generators::slider::generate_owned(d, g, words, spare)

@@ -3,13 +3,14 @@ use mathlib.Core.Path.{_≡_, ap, _∙_}
 use Prim.Native.Nat.{ℕ, _+_, _*_, _≤_, _<_}
 use native.Mathlib.Nat.{mul-le-mul-right, mul-comm, one-mul, add-mul}
 use native.Mathlib.Omega.{arith}
+use Rattle.model.specs.Limits.{mostLongSpans}
 use Rattle.mania.specs.declared.PathObjectPatternGenerator.{PathObjectPatternGenerator}
 use Rattle.mania.specs.PathObject.{latest}
 use Rattle.slider_patterns.specs.Parts.{Fits}
 use Rattle.path_object.specs.Parts.{Ready}
 
 -- long spans of a short slider are few
-pub few-spans : (length spans : ℕ) → 160 < length → length * spans ≤ 3999 → spans ≤ 340
+pub few-spans : (length spans : ℕ) → 160 < length → length * spans ≤ 3999 → spans ≤ mostLongSpans
 few-spans length spans h k =
     let l : 161 * spans ≤ length * spans = mul-le-mul-right spans h in
     omega arith

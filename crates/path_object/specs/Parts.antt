@@ -1,5 +1,6 @@
 -- What the generator asks of a slider. Assumes nothing.
 use Prim.Native.Nat.{ℕ, _-_, _*_, _^_, _≤_, _<_}
+use Rattle.model.specs.Limits.{mostSpans, mostNotes}
 use Rattle.mania.specs.declared.PathObjectPatternGenerator.{PathObjectPatternGenerator}
 
 -- what a generator is given: a deck, spans that end by the slider's end, a start below 2 ^ 25, and a buffer of at least 2,050 words
@@ -9,5 +10,5 @@ pub record Ready (g : PathObjectPatternGenerator) (words : ℕ) : Type 0 where
   pub early : g .start < 2 ^ 25
   pub share : g .length * g .spans ≤ g .end - g .start
   pub one : 1 ≤ g .spans
-  pub spans : g .spans ≤ 1024
-  pub room : 2050 ≤ words
+  pub spans : g .spans ≤ mostSpans
+  pub room : mostNotes ≤ words

@@ -2,6 +2,7 @@
 // lent buffer.
 ghost use mathlib.Core.Path.{_≡_};
 ghost use lib.Dec.{leb, ltb};
+ghost use Rattle.model.specs.Limits.{mostNotes};
 ghost use Rattle.mania.specs.PatternType.{forceNotStack, _⊔ₜ_};
 ghost use Prim.Native.Nat.{_-_, _*_, _≤_, _<_};
 ghost use lib.Count.{ones};
@@ -15,14 +16,12 @@ ghost use Rattle.slider_notes.specs.Answers.{Places};
 ghost use Rattle.slider_patterns.specs.Parts.{Fits};
 ghost use Rattle.path_object.specs.Parts.{Ready};
 use mania::PathObjectPatternGenerator;
+use model::limits::LATEST_END;
 use pattern::ObjectEnd;
 use pattern::Pattern;
 use pattern::Placed;
 use random::Draws;
 use slider_times::Chance;
-
-// The latest end of a slider.
-const LATEST: u32 = 33554431;
 
 // ---- the branches in their order
 
@@ -48,7 +47,7 @@ fn tile_limit(columns: u8) -> u32
 // `generate_` with more than one span.
 pub fn generate_spans(d: Draws, g: PathObjectPatternGenerator, words: &mut [u64]) -> Placed
     requires { ⌜ Fits g (length (now words)) × (g .length * g .spans ≤ g .end - g .start) ⌝ }
-    ensures { λ r. ⌜ Places (now (words .exit)) (on (Path.generateSpans g) d) 2050 r ⌝ }
+    ensures { λ r. ⌜ Places (now (words .exit)) (on (Path.generateSpans g) d) mostNotes r ⌝ }
 {
     let span = g.length;
     let difficulty = g.difficulty;
@@ -105,7 +104,7 @@ fn span_notes(length: u32) -> u32
 // `generate_` with one span.
 pub fn generate_span(d: Draws, g: PathObjectPatternGenerator, words: &mut [u64]) -> Placed
     requires { ⌜ Fits g (length (now words)) ⌝ }
-    ensures { λ r. ⌜ Places (now (words .exit)) (on (Path.generateSpan g) d) 2050 r ⌝ }
+    ensures { λ r. ⌜ Places (now (words .exit)) (on (Path.generateSpan g) d) mostNotes r ⌝ }
 {
     let span = g.length;
     if span <= 110 {
@@ -121,7 +120,7 @@ pub fn generate_span(d: Draws, g: PathObjectPatternGenerator, words: &mut [u64])
 // `generate_`
 pub fn generate_core(d: Draws, g: PathObjectPatternGenerator, words: &mut [u64]) -> Placed
     requires { ⌜ Ready g (length (now words)) × (g .end ≤ Path.latest) ⌝ }
-    ensures { λ r. ⌜ Places (now (words .exit)) (on (Path.generateCore g) d) 2050 r ⌝ }
+    ensures { λ r. ⌜ Places (now (words .exit)) (on (Path.generateCore g) d) mostNotes r ⌝ }
 {
     let columns = g.columns;
     let spans = g.spans;
@@ -147,12 +146,12 @@ pub fn generate_by_value(
     words: &mut [u64],
     spare: &mut [u64],
 ) -> ObjectEnd
-    requires { ⌜ Ready g (length (now spare)) × (2050 ≤ length (now words)) ⌝ }
-    ensures { λ r. ⌜ Generates noteOfWord (now (words .exit)) (on (Path.generate g) d) 2050 r ⌝ }
+    requires { ⌜ Ready g (length (now spare)) × (mostNotes ≤ length (now words)) ⌝ }
+    ensures { λ r. ⌜ Generates noteOfWord (now (words .exit)) (on (Path.generate g) d) mostNotes r ⌝ }
 {
     let end = g.end;
     let stair = g.stair;
-    if LATEST < end {
+    if LATEST_END < end {
         return ObjectEnd::Refused(8, d);
     }
     match generate_core(d, g, spare) {

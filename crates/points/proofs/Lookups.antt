@@ -7,6 +7,7 @@ use native.Mathlib.Nat.{add-zero, mul-le-mul-left}
 use native.Mathlib.Omega.{arith}
 use lib.Dec.{eqb}
 use lib.Ieee.{Float, binary64, round, lt, le}
+use Rattle.model.specs.Limits.{mostEntries}
 use Rattle.rules.specs.Rule.{if_then_else_}
 use Rattle.bits.specs.Field.{bits}
 use Rattle.floats.specs.Laws.Order.{lt-le}
@@ -43,7 +44,7 @@ rising-rest s p n r i l =
     rw (a, b) at (r (i + 1) (omega arith))
 
 -- an entry of a list is near its start
-pub near : (w m : ℕ) → w ≤ At.entry → m ≤ 4095 → w * m ≤ 524160
+pub near : (w m : ℕ) → w ≤ At.entry → m ≤ mostEntries → w * m ≤ 524160
 near w m h k = omega (arith, mul-le-mul-left w k)
 
 -- how many of n entries of w bits from bit p on are passed at the time t

@@ -1,6 +1,7 @@
 // The control point in force at a time, found in the record's bytes.
 ghost use mathlib.Core.Path.{_≡_};
 ghost use Prim.Native.Nat.{_≤_};
+ghost use Rattle.model.specs.Limits.{mostEntries};
 ghost use Rattle.model.specs.ControlPoint.{beatAt, velocityAt, kiaiAt};
 ghost use Rattle.record.specs.Lookup.{Rising};
 ghost use Rattle.record.specs.Section.{timingPoints, difficultyPoints, effectPoints};
@@ -43,7 +44,7 @@ fn is_within(p: Passed, t: f64) -> bool
 // How many of `count` points from bit `at` on are passed at the time t, after those that were passed at another. Starts never fall, so a walk over the
 // objects reads the time of each point once. No start reaches the time that stands for that of a point after the last.
 fn points_up_to(section: Section, s: &[u8], at: usize, count: usize, p: Passed, t: f64) -> Passed
-    requires { ⌜ (at ≤ 200000000) × (count ≤ 4095) × Rising section (now s) at count × Known (passed section (now s) at count) count p ⌝ }
+    requires { ⌜ (at ≤ 200000000) × (count ≤ mostEntries) × Rising section (now s) at count × Known (passed section (now s) at count) count p ⌝ }
     ensures { λ r. ⌜ (r .number ≡ passed section (now (s .entry)) at count t) × NumberLasts section (now (s .entry)) at count r ⌝ }
 {
     let width = width_of(section);
@@ -74,7 +75,7 @@ fn points_up_to(section: Section, s: &[u8], at: usize, count: usize, p: Passed, 
 // The beat length in force at the time t, among `count` timing points from bit `at` on: before the first point it is the first's. Like the two below,
 // it keeps the value c where that lasts.
 pub fn timing_point_at(s: &[u8], at: usize, count: usize, c: Lasting, t: f64) -> Lasting
-    requires { ⌜ (at ≤ 100000000) × (count ≤ 4095) × Rising TimingPoints (now s) at count × BeatLasts (now s) at count c ⌝ }
+    requires { ⌜ (at ≤ 100000000) × (count ≤ mostEntries) × Rising TimingPoints (now s) at count × BeatLasts (now s) at count c ⌝ }
     ensures { λ r. ⌜ (r .value ≡ beatAt (timingPoints (now (s .entry)) at count) t) × BeatLasts (now (s .entry)) at count r ⌝ }
 {
     let before = c.passed;
@@ -94,7 +95,7 @@ pub fn timing_point_at(s: &[u8], at: usize, count: usize, c: Lasting, t: f64) ->
 
 // The slider velocity in force at the time t, among `count` difficulty points from bit `at` on.
 pub fn difficulty_point_at(s: &[u8], at: usize, count: usize, c: Lasting, t: f64) -> Lasting
-    requires { ⌜ (at ≤ 100000000) × (count ≤ 4095) × Rising DifficultyPoints (now s) at count × VelocityLasts (now s) at count c ⌝ }
+    requires { ⌜ (at ≤ 100000000) × (count ≤ mostEntries) × Rising DifficultyPoints (now s) at count × VelocityLasts (now s) at count c ⌝ }
     ensures { λ r. ⌜ (r .value ≡ velocityAt (difficultyPoints (now (s .entry)) at count) t) × VelocityLasts (now (s .entry)) at count r ⌝ }
 {
     let before = c.passed;
@@ -111,7 +112,7 @@ pub fn difficulty_point_at(s: &[u8], at: usize, count: usize, c: Lasting, t: f64
 
 // Whether kiai is in force at the time t, among `count` effect points from bit `at` on.
 pub fn effect_point_at(s: &[u8], at: usize, count: usize, c: LastingFlag, t: f64) -> LastingFlag
-    requires { ⌜ (at ≤ 100000000) × (count ≤ 4095) × Rising EffectPoints (now s) at count × KiaiLasts (now s) at count c ⌝ }
+    requires { ⌜ (at ≤ 100000000) × (count ≤ mostEntries) × Rising EffectPoints (now s) at count × KiaiLasts (now s) at count c ⌝ }
     ensures { λ r. ⌜ (r .value ≡ kiaiAt (effectPoints (now (s .entry)) at count) t) × KiaiLasts (now (s .entry)) at count r ⌝ }
 {
     let before = c.passed;

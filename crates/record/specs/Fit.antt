@@ -7,6 +7,7 @@ use lib.Dec.{T}
 use lib.IntN.{pos, negsuc}
 use lib.ListN.{length}
 use lib.Ieee.{Float, Format, binary32, binary64, fits, ofInt, round, lt}
+use Rattle.model.specs.Limits.{mostSpans, mostBreaks, mostEntries}
 use Rattle.floats.specs.Range.{inRange}
 use Rattle.model.specs.declared.Settings.{Settings}
 use Rattle.model.specs.declared.BreakPeriod.{BreakPeriod}
@@ -77,7 +78,7 @@ FitNode (NodeSound.Given sound) = sound < 16
 
 abbrev pub FitKind : Kind → Type 0
 FitKind Circle = Unit {0}
-FitKind (Slider repeats distance node) = (repeats < 1024) × FitDistance distance × FitNode node
+FitKind (Slider repeats distance node) = (repeats < mostSpans) × FitDistance distance × FitNode node
 FitKind (Spinner d) = FitSpan d
 FitKind (Hold d) = FitSpan d
 
@@ -126,8 +127,8 @@ pub record FitSong (song : Song) : Type 0 where
   pub difficulty-rises : Rises (λ (p : DifficultyPoint). p .time) (song .difficultyPoints)
   pub effect-rises : Rises (λ (p : EffectPoint). p .time) (song .effectPoints)
   pub starts : NoFall (song .objects)
-  pub few-breaks : length (song .breaks) < 256
-  pub few-timing : length (song .timingPoints) < 4096
-  pub few-difficulty : length (song .difficultyPoints) < 4096
-  pub few-effect : length (song .effectPoints) < 4096
-  pub few-objects : length (song .objects) < 4096
+  pub few-breaks : length (song .breaks) ≤ mostBreaks
+  pub few-timing : length (song .timingPoints) ≤ mostEntries
+  pub few-difficulty : length (song .difficultyPoints) ≤ mostEntries
+  pub few-effect : length (song .effectPoints) ≤ mostEntries
+  pub few-objects : length (song .objects) ≤ mostEntries

@@ -5,6 +5,7 @@ use mathlib.Core.List.{List}
 use lib.Dec.{ltb, eqb}
 use lib.IntN.{pos}
 use lib.Ieee.{binary32, binary64, ofInt, round}
+use Rattle.model.specs.Limits.{mostEntries, mostBreaks}
 use Rattle.bits.specs.Field.{bits, short}
 use Rattle.model.specs.declared.Settings.{Settings}
 use Rattle.record.specs.declared.header.Counts.{Counts}
@@ -51,8 +52,8 @@ countsOf s =
 
 -- what the widths of the counts say of them
 pub record SmallCounts (n : Counts) : Type 0 where
-  pub breaks-le : n .breaks ≤ 255
-  pub timing-le : n .timing ≤ 4095
-  pub difficulty-le : n .difficulty ≤ 4095
-  pub effect-le : n .effect ≤ 4095
-  pub objects-le : n .objects ≤ 4095
+  pub breaks-le : n .breaks ≤ mostBreaks
+  pub timing-le : n .timing ≤ mostEntries
+  pub difficulty-le : n .difficulty ≤ mostEntries
+  pub effect-le : n .effect ≤ mostEntries
+  pub objects-le : n .objects ≤ mostEntries

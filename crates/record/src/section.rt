@@ -3,6 +3,7 @@ ghost use mathlib.Core.Path.{_≡_};
 ghost use mathlib.Core.Bool.{false};
 ghost use Prim.Native.Nat.{_≤_};
 ghost use lib.Ieee.{binary64, round};
+ghost use Rattle.model.specs.Limits.{mostEntries};
 ghost use Rattle.model.specs.Totals.{breakTime};
 ghost use Rattle.record.specs.Section.{widthOf, timeRefusal, beatRefusal, velocityRefusal, risingRefusal, entryRefusal, sectionRefusal, noTime, breaks};
 use crate::layout;
@@ -100,7 +101,7 @@ fn entry_refusal(section: Section, s: &[u8], at: usize, before: f64) -> u8
 
 // `count` entries from bit `at` on.
 pub fn section_refusal(section: Section, s: &[u8], at: usize, count: usize) -> u8
-    requires { ⌜ (at ≤ 100000000) × (count ≤ 4095) ⌝ }
+    requires { ⌜ (at ≤ 100000000) × (count ≤ mostEntries) ⌝ }
     ensures { λ r. ⌜ r ≡ sectionRefusal section (now (s .entry)) at count ⌝ }
 {
     let width = width_of(section);
@@ -121,7 +122,7 @@ pub fn section_refusal(section: Section, s: &[u8], at: usize, count: usize) -> u
 
 // How long `count` breaks from bit `at` on last together, summed in order from 0.
 pub fn total_break_time(s: &[u8], at: usize, count: usize) -> f64
-    requires { ⌜ (at ≤ 100000000) × (count ≤ 4095) ⌝ }
+    requires { ⌜ (at ≤ 100000000) × (count ≤ mostEntries) ⌝ }
     ensures { λ r. ⌜ r ≡ breakTime (round binary64 false 0 1) (breaks (now (s .entry)) at count) ⌝ }
 {
     let mut here = at;

@@ -1,6 +1,7 @@
 // Objects: their check, and their values.
 ghost use mathlib.Core.Path.{_≡_};
 ghost use Prim.Native.Nat.{_≤_, _+_, _*_};
+ghost use Rattle.model.specs.Limits.{mostEntries};
 ghost use Rattle.bits.specs.Field.{bits};
 ghost use Rattle.record.specs.Layout as At;
 ghost use Rattle.record.specs.Object.{nodeBit, sliderEnd, distanceBy, nodeBy, sliderAt, kindBy, spanRefusal, distanceRefusal, positionRefusal, sliderRefusal, kindRefusal, readObject, objectEnd, readAt, objectRefusal, scan};
@@ -230,7 +231,7 @@ fn is_long(s: &[u8], at: usize) -> usize
 
 // `count` objects from bit `at` on.
 pub fn scan_objects(s: &[u8], at: usize, count: usize) -> Scan
-    requires { ⌜ (at ≤ 100000000) × (count ≤ 4095) ⌝ }
+    requires { ⌜ (at ≤ 100000000) × (count ≤ mostEntries) ⌝ }
     ensures { λ r. ⌜ (r ≡ scan (now (s .entry)) at count) × EndBy (at + At.longest * count) r ⌝ }
 {
     let mut here = at;

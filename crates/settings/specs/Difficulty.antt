@@ -17,6 +17,7 @@ use lib.Ieee.Exact.{HasValue}
 use lib.Ieee.Fits.{up-pos, down-pos}
 use lib.Ieee.Positive.{num, den}
 use lib.Ieee.Scale.{finite}
+use Rattle.model.specs.Limits.{mostEntries}
 use Rattle.floats.specs.Whole.{whole, rounded, signed}
 use Rattle.floats.specs.Laws.Values.{UpTo, le-not-lt, round-at-most}
 use Rattle.floats.specs.declared.Way.the-variants.{Cut}
@@ -245,21 +246,21 @@ least-twelve x f = pick (lt (double 12 1) x) refl
     pick false h = record { real = is-true (finite x) f; most = is-true (le x (double 12 1)) (not-above x f h) }
 
 -- a record has at most 4,095 objects
-pub difficulty-twelve : (s : Settings) (breaks first last : Float) (objects : ℕ) → Accepted s → objects ≤ 4095 → Twelve (difficultyOf s breaks first last objects)
+pub difficulty-twelve : (s : Settings) (breaks first last : Float) (objects : ℕ) → Accepted s → objects ≤ mostEntries → Twelve (difficultyOf s breaks first last objects)
 unfolding difficultyOf drainTime
 difficulty-twelve s breaks first last objects a h =
     let hp = small-of 10 (s .hp) (at-most-ten (s .hp) (a .hp)) in
     let ar = small-clamped (s .ar) (small-of 10 (s .ar) (at-most-ten (s .ar) (a .ar))) in
     let life = div-small binary64 _ (double 3 2) 20 (add-small binary32 (s .hp) _ 10 10 hp ar (lit≤ tt)) large-three-halves (lit≤ tt) in
     let n = more (small-int objects (le-trans h (lit≤ tt))) in
-    let pace = mul-small binary64 _ (double 9 1) 4095 9 (div-small binary64 (double# objects) _ 4095 n (large-drain _) (lit≤ tt)) (small-whole 9 (lit≤ tt)) (lit≤ tt) in
+    let pace = mul-small binary64 _ (double 9 1) mostEntries 9 (div-small binary64 (double# objects) _ mostEntries n (large-drain _) (lit≤ tt)) (small-whole 9 (lit≤ tt)) (lit≤ tt) in
     let both = add-small binary64 _ _ 20 36855 life pace (lit≤ tt) in
     let x = mul-small binary64 _ (double 5 1) 36875 5 (div-small binary64 _ (double 38 1) 36875 both large-38 (lit≤ tt)) (small-whole 5 (lit≤ tt)) (lit≤ tt) in
     least-twelve _ (div-small binary64 _ (double 115 100) 184375 x large-115 (lit≤ tt) .real)
   where
-    more : Small objects (double# objects) → Small 4095 (double# objects)
+    more : Small objects (double# objects) → Small mostEntries (double# objects)
     more k = record { real = k .real; most = le-trans (k .most) (mul-le-mul-right (den (double# objects)) h) }
 
-pub conversion-twelve : (s : Settings) (breaks : List BreakPeriod) (os : List Object) → Accepted s → length os ≤ 4095 → Twelve (conversionDifficulty s breaks os)
+pub conversion-twelve : (s : Settings) (breaks : List BreakPeriod) (os : List Object) → Accepted s → length os ≤ mostEntries → Twelve (conversionDifficulty s breaks os)
 unfolding conversionDifficulty
 conversion-twelve s breaks os a h = difficulty-twelve s _ _ _ _ a h

@@ -5,6 +5,7 @@ use mathlib.Core.Bool.{Bool, true, false}
 use mathlib.Core.List.{List}
 use lib.Dec.{ltb}
 use lib.ListN.{length}
+use Rattle.model.specs.Limits.{mostNotes}
 use Rattle.rules.specs.Refusal.{number, spentNumber}
 use Rattle.random.specs.Play.{found, tallied, on}
 use Rattle.random.specs.Laws.Allowance.{found-run}
@@ -26,9 +27,10 @@ use Rattle.object.specs.Notes.{noteAt}
 use Rattle.object.specs.Contract.{Asks}
 use Rattle.single.specs.declared.SingleEnd.{SingleEnd}
 use Rattle.single.specs.Ends.{singleEnd, Keeps, full, kept}
+use Rattle.chart.specs.Layout.{noteSize}
 
 -- values that no check refuses are those that a generator takes
-pub asks : (f : Facts) (v : PrevValues) (columns : ℕ) (o : Object) (m n : ℕ) → entryRefusal f v columns o ≡ 0 → 2050 ≤ m → 2050 ≤ n → Asks v columns o m n
+pub asks : (f : Facts) (v : PrevValues) (columns : ℕ) (o : Object) (m n : ℕ) → entryRefusal f v columns o ≡ 0 → mostNotes ≤ m → mostNotes ≤ n → Asks v columns o m n
 asks f v columns o m n e w s =
     let c = checked f v columns o e in
     record {
@@ -50,8 +52,8 @@ left-in f v columns o r a words p stair e says =
 module _ (f : Facts) (v : PrevValues) (columns : ℕ) (o : Object) (r : Random) (a : ℕ) (entry exit words : List ℕ) (p : Pattern) (stair : Stair) (e : Draws)
     (passes : entryRefusal f v columns o ≡ 0) (size : p .count ≤ length words)
     (says : found (madeBy (noteAt o) words p stair) e ≡ on (object f v columns o) (tallied a 0 r)) where
-  longer : (b : Bool) → ltb (length entry) (17 * p .count) ≡ b → ltb (length entry) (17 * length (madeBy (noteAt o) words p stair .notes)) ≡ b
-  longer b l = subst (λ (n : ℕ). ltb (length entry) (17 * n) ≡ b) (sym (note-count (noteAt o) words (p .count) size)) l
+  longer : (b : Bool) → ltb (length entry) (noteSize * p .count) ≡ b → ltb (length entry) (noteSize * length (madeBy (noteAt o) words p stair .notes)) ≡ b
+  longer b l = subst (λ (n : ℕ). ltb (length entry) (noteSize * n) ≡ b) (sym (note-count (noteAt o) words (p .count) size)) l
 
   pub ended-single : (x : SingleEnd) → Keeps entry exit words o p stair r a e x → singleEnd exit x ≡ singleObject f v columns o r a entry
   unfolding refusing

@@ -2,12 +2,15 @@
 ghost use mathlib.Core.Path.{_≡_};
 ghost use Prim.Native.Nat.{_≤_};
 ghost use lib.ListN.{length};
+ghost use Rattle.model.specs.Limits.{mostNotes};
 ghost use Rattle.mania.specs.Single.{entryRefusal, singleObject};
 ghost use Rattle.single.specs.Ends.{singleEnd, Keeps};
+use chart::layout::NOTE_SIZE;
 use mania::Facts;
 use mania::PrevValues;
 use mania::Stair;
 use model::Object;
+use model::limits::MOST_NOTES;
 use pattern::ObjectEnd;
 use pattern::Pattern;
 use random::Draws;
@@ -31,11 +34,11 @@ fn keep(
     e: Draws,
     notes: &mut [u8],
 ) -> SingleEnd
-    requires { ⌜ (p .count ≤ 2050) × (2050 ≤ length (now words)) × (e .tally .left ≤ allowance) ⌝ }
+    requires { ⌜ (p .count ≤ mostNotes) × (mostNotes ≤ length (now words)) × (e .tally .left ≤ allowance) ⌝ }
     ensures { λ r. ⌜ Keeps (now (notes .entry)) (now (notes .exit)) (now (words .entry)) o p stair lent allowance e r ⌝ }
 {
     let count = p.count;
-    if notes.len() < 17 * count {
+    if notes.len() < NOTE_SIZE * count {
         return SingleEnd::Refused(11, lent);
     }
     notes::put_notes(o, words, count, notes, 0);
@@ -64,8 +67,8 @@ fn generate(
     requires { ⌜ entryRefusal f v columns o ≡ 0 ⌝ }
     ensures { λ r. ⌜ singleEnd (now (notes .exit)) r ≡ singleObject f v columns o lent allowance (now (notes .entry)) ⌝ }
 {
-    let mut words: [u64; 2050] = [0; 2050];
-    let mut spare: [u64; 2050] = [0; 2050];
+    let mut words: [u64; MOST_NOTES] = [0; MOST_NOTES];
+    let mut spare: [u64; MOST_NOTES] = [0; MOST_NOTES];
     let tally = Tally {
         left: allowance,
         longest: 0,

@@ -3,6 +3,7 @@
 ghost use mathlib.Core.Path.{_≡_};
 ghost use mathlib.Core.Bool.{_&&_};
 ghost use lib.Dec.{ltb};
+ghost use Rattle.model.specs.Limits.{mostNotes, mostLongSpans};
 ghost use Rattle.mania.specs.PatternType.{forceNotStack, contains};
 ghost use Prim.Native.Nat.{_+_, _-_, _*_, _≤_, _<_, min};
 ghost use lib.Count.{ones};
@@ -86,7 +87,7 @@ pub fn generate_random_hold_notes(
     n: u32,
 ) -> Placed
     requires { ⌜ Fits g (length (now words)) × (n ≤ 6) ⌝ }
-    ensures { λ r. ⌜ Places (now (words .exit)) (on (Path.generateRandomHoldNotes g n) d) 2050 r ⌝ }
+    ensures { λ r. ⌜ Places (now (words .exit)) (on (Path.generateRandomHoldNotes g n) d) mostNotes r ⌝ }
 {
     let off = holds_off(g.columns, g.mask, n);
     let over = holds_over(g.columns, g.mask, n);
@@ -120,7 +121,7 @@ pub fn generate_random_notes(
     n: u32,
 ) -> Placed
     requires { ⌜ Fits g (length (now words)) × (n ≤ g .spans + 1) ⌝ }
-    ensures { λ r. ⌜ Places (now (words .exit)) (on (Path.generateRandomNotes g flags n) d) 2050 r ⌝ }
+    ensures { λ r. ⌜ Places (now (words .exit)) (on (Path.generateRandomNotes g flags n) d) mostNotes r ⌝ }
 {
     let blank = Pattern {
         mask: 0,
@@ -136,7 +137,7 @@ pub fn generate_random_notes(
 // `generate_stair`
 pub fn generate_stair(d: Draws, g: PathObjectPatternGenerator, words: &mut [u64]) -> Placed
     requires { ⌜ Fits g (length (now words)) ⌝ }
-    ensures { λ r. ⌜ Places (now (words .exit)) (on (Path.generateStair g) d) 2050 r ⌝ }
+    ensures { λ r. ⌜ Places (now (words .exit)) (on (Path.generateStair g) d) mostNotes r ⌝ }
 {
     let blank = Pattern {
         mask: 0,
@@ -158,7 +159,7 @@ pub fn generate_random_multiple_notes(
     words: &mut [u64],
 ) -> Placed
     requires { ⌜ Fits g (length (now words)) ⌝ }
-    ensures { λ r. ⌜ Places (now (words .exit)) (on (Path.generateRandomMultipleNotes g) d) 2050 r ⌝ }
+    ensures { λ r. ⌜ Places (now (words .exit)) (on (Path.generateRandomMultipleNotes g) d) mostNotes r ⌝ }
 {
     let blank = Pattern {
         mask: 0,
@@ -189,7 +190,7 @@ pub fn generate_n_random_notes(
     chance: Chance,
 ) -> Placed
     requires { ⌜ Fits g (length (now words)) ⌝ }
-    ensures { λ r. ⌜ Places (now (words .exit)) (on (Path.generateNRandomNotes g (chances chance)) d) 2050 r ⌝ }
+    ensures { λ r. ⌜ Places (now (words .exit)) (on (Path.generateNRandomNotes g (chances chance)) d) mostNotes r ⌝ }
 {
     let k = slider_times::capped(g.columns, chance);
     let two = slider_times::can_generate_two_notes(g);
@@ -207,7 +208,7 @@ pub fn generate_tiled_hold_notes(
     words: &mut [u64],
 ) -> Placed
     requires { ⌜ Fits g (length (now words)) ⌝ }
-    ensures { λ r. ⌜ Places (now (words .exit)) (on (Path.generateTiledHoldNotes g) d) 2050 r ⌝ }
+    ensures { λ r. ⌜ Places (now (words .exit)) (on (Path.generateTiledHoldNotes g) d) mostNotes r ⌝ }
 {
     let blank = Pattern {
         mask: 0,
@@ -278,8 +279,8 @@ pub fn generate_hold_and_normal_notes(
     g: PathObjectPatternGenerator,
     words: &mut [u64],
 ) -> Placed
-    requires { ⌜ Fits g (length (now words)) × (g .spans ≤ 340) ⌝ }
-    ensures { λ r. ⌜ Places (now (words .exit)) (on (Path.generateHoldAndNormalNotes g) d) 2050 r ⌝ }
+    requires { ⌜ Fits g (length (now words)) × (g .spans ≤ mostLongSpans) ⌝ }
+    ensures { λ r. ⌜ Places (now (words .exit)) (on (Path.generateHoldAndNormalNotes g) d) mostNotes r ⌝ }
 {
     let blank = Pattern {
         mask: 0,

@@ -6,6 +6,7 @@ use mathlib.Core.Bool.{Bool, true, false, cond}
 use lib.Dec.{eqb, ltb}
 use lib.Ieee.{Float}
 use borrow.Author.Tests.{eqb-true, eqb-false, ltb-true, ltb-false, lt-ltb, le-ltb}
+use Rattle.model.specs.Limits.{mostSpans}
 use Rattle.model.specs.declared.NodeSound.{NodeSound}
 use Rattle.model.specs.declared.NodeSound.the-variants as Node
 use Rattle.mania.specs.Single.{nodeFits, kindFits}
@@ -51,13 +52,13 @@ module _ (multiplier beat velocity x y start : Float) (sound repeats given node 
 
   same-rest : restRefusal cut ≡ restRefusal whole
   unfolding kindFits factsOf
-  same-rest = rw (rest-is cut, rest-is whole, same-test sound 255 16 (omega arith), same-test repeats 65535 1024 (omega arith), node-test (isSet given) node) refl
+  same-rest = rw (rest-is cut, rest-is whole, same-test sound 255 16 (omega arith), same-test repeats 65535 mostSpans (omega arith), node-test (isSet given) node) refl
 
   same-slider : restRefusal cut ≡ 0 → cut ≡ whole
   same-slider e =
       let f = small-fields cut e in
       let s : min sound 255 ≡ sound = itself sound 255 16 (omega arith) (f .0) in
-      let r : min repeats 65535 ≡ repeats = itself repeats 65535 1024 (omega arith) (f .1) in
+      let r : min repeats 65535 ≡ repeats = itself repeats 65535 mostSpans (omega arith) (f .1) in
       let n = node-itself (isSet given) node (f .2) in
       ap (λ (k : ℕ). with-fields k (min repeats 65535) (cut .node)) s ∙ ap (λ (k : ℕ). with-fields sound k (cut .node)) r ∙ ap (with-fields sound repeats) n
 

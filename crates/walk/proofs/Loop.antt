@@ -10,6 +10,7 @@ use lib.Dec.{ltb}
 use lib.Pow.{pow-pos}
 use lib.ListN.{length, take, drop, length-append, length-map, take-append-drop}
 use borrow.Author.Tests.{ltb-false}
+use Rattle.model.specs.Limits.{mostNotes, mostEntries}
 use Rattle.random.specs.Play.{Answer, found, refused, on}
 use Rattle.random.specs.declared.Draws.{Draws}
 use Rattle.model.specs.declared.Object.{Object}
@@ -19,6 +20,7 @@ use Rattle.record.specs.Record.{songOf}
 use Rattle.record.specs.Refusal.{entries}
 use Rattle.record.specs.Object.{readObject, objectEnd, objects}
 use Rattle.record.specs.Laws.Objects.{objects-cons}
+use Rattle.chart.specs.Layout.{chartSize, noteSize}
 use Rattle.chart.specs.Bytes.{splice}
 use Rattle.chart.specs.Chart as Bytes
 use Rattle.chart.specs.Laws.Bytes.{splice-next}
@@ -47,9 +49,9 @@ unfolding inWalkOrder
 order-more [] ns = append-nil ns
 order-more (ms ∷ nss) ns = ap (λ (x : List Note). ms ++ x) (order-more nss ns) ∙ sym (append-assoc ms (inWalkOrder nss) ns)
 
-length-bytes : (ns : List Note) → length (body ns) ≡ 17 * length ns
+length-bytes : (ns : List Note) → length (body ns) ≡ noteSize * length ns
 unfolding body
-length-bytes ns = length-body (map patternOf ns) ∙ ap (λ (n : ℕ). 17 * n) (length-map ns patternOf)
+length-bytes ns = length-body (map patternOf ns) ∙ ap (λ (n : ℕ). noteSize * n) (length-map ns patternOf)
 
 bytes-append : (ms ns : List Note) → body (ms ++ ns) ≡ body ms ++ body ns
 unfolding body
@@ -69,8 +71,8 @@ pub record At (bytes part entry chart : List ℕ) (g : Song) (start count : ℕ)
       ≡ rule bytes part g (length entry) start count d
   pub written : chart ≡ splice entry 8 (body (inWalkOrder nss))
   pub number : w .notes ≡ length (inWalkOrder nss)
-  pub few : w .notes ≤ 2050 * i
-  pub room : 8 + 17 * w .notes ≤ length entry
+  pub few : w .notes ≤ mostNotes * i
+  pub room : chartSize (w .notes) ≤ length entry
   pub range : Each InRange (objects part here (count - i))
   pub sound : Sound (g .columns) w
   pub near : here ≤ 7 + longest * i
@@ -137,7 +139,7 @@ module _ (bytes part entry : List ℕ) (g : Song) (start count : ℕ) (d : Draws
       at-refused n e z (refuses h) = sym from-here ∙ walk-refused (songOf bytes) (g .difficulty) (g .columns) (length entry) i (walkOf w) o os rest n e (ruled ∙ h) (a .nss)
       at-refused n e z (full made h t k) =
           sym from-here
-          ∙ walk-full (songOf bytes) (g .difficulty) (g .columns) (length entry) i (walkOf w) o os rest made e (ruled ∙ h) (subst (λ (f : ℕ). ltb f (8 + 17 * (w .notes + length (made .notes))) ≡ true) z t) (a .nss)
+          ∙ walk-full (songOf bytes) (g .difficulty) (g .columns) (length entry) i (walkOf w) o os rest made e (ruled ∙ h) (subst (λ (f : ℕ). ltb f (chartSize (w .notes + length (made .notes))) ≡ true) z t) (a .nss)
           ∙ ap (λ (x : ℕ). refused (stop i x) e) (sym k)
 
       pub at-next : (exit : List ℕ) (x : Walk) (next : ℕ) (e : Draws) → length chart ≡ length entry → Next chart exit g c w o rest x e
@@ -145,11 +147,11 @@ module _ (bytes part entry : List ℕ) (g : Song) (start count : ℕ) (d : Draws
       unfolding walkOf walkAfter afterObject
       at-next exit x next e z k at far =
           let ns = k .made .notes in
-          let room : ltb (length entry) (8 + 17 * (w .notes + length ns)) ≡ false = subst (λ (f : ℕ). ltb f (8 + 17 * (w .notes + length ns)) ≡ false) z (k .room) in
+          let room : ltb (length entry) (chartSize (w .notes + length ns)) ≡ false = subst (λ (f : ℕ). ltb f (chartSize (w .notes + length ns)) ≡ false) z (k .room) in
           let notes : x .notes ≡ w .notes + length ns = ap (λ (y : Convert.Walk). y .notes) (k .after) in
           let sum : length (inWalkOrder (a .nss ++ ns ∷ [])) ≡ length (inWalkOrder (a .nss)) + length ns =
           ap length (order-more (a .nss) ns) ∙ length-append (inWalkOrder (a .nss)) ns in
-          let fits : 8 + 17 * (w .notes + length ns) ≤ length entry = ltb-false (length entry) (8 + 17 * (w .notes + length ns)) room in
+          let fits : chartSize (w .notes + length ns) ≤ length entry = ltb-false (length entry) (chartSize (w .notes + length ns)) room in
           record {
             nss = a .nss ++ ns ∷ [];
             passed = omega arith;
@@ -161,9 +163,9 @@ module _ (bytes part entry : List ℕ) (g : Song) (start count : ℕ) (d : Draws
                 ∙ from-here;
             written =
                 k .written
-                ∙ ap (λ (s : List ℕ). splice s (8 + 17 * w .notes) (body ns)) (a .written)
-                ∙ splice-next entry 8 (body (inWalkOrder (a .nss))) (8 + 17 * w .notes) (body ns)
-                (ap (λ (n : ℕ). 8 + n) (ap (λ (n : ℕ). 17 * n) (a .number) ∙ sym (length-bytes (inWalkOrder (a .nss)))))
+                ∙ ap (λ (s : List ℕ). splice s (chartSize (w .notes)) (body ns)) (a .written)
+                ∙ splice-next entry 8 (body (inWalkOrder (a .nss))) (chartSize (w .notes)) (body ns)
+                (ap (λ (n : ℕ). 8 + n) (ap (λ (n : ℕ). noteSize * n) (a .number) ∙ sym (length-bytes (inWalkOrder (a .nss)))))
                 (omega (arith, length-bytes ns))
                 ∙ ap (splice entry 8) (sym (ap body (order-more (a .nss) ns) ∙ bytes-append (inWalkOrder (a .nss)) ns));
             number = omega (arith, notes, sum, a .number);
@@ -174,7 +176,7 @@ module _ (bytes part entry : List ℕ) (g : Song) (start count : ℕ) (d : Draws
             near = omega (arith, far, a .near);
           }
 
-  pub at-end : (chart : List ℕ) (w : Walk) (here : ℕ) (rest : Draws) (i : ℕ) → count ≤ i → count ≤ 4095 → At bytes part entry chart g start count d w here rest i
+  pub at-end : (chart : List ℕ) (w : Walk) (here : ℕ) (rest : Draws) (i : ℕ) → count ≤ i → count ≤ mostEntries → At bytes part entry chart g start count d w here rest i
       → Written (rule bytes part g (length entry) start count d) entry chart (w .notes) rest
   unfolding objects entries
   at-end chart w here rest i h l a =

@@ -5,6 +5,7 @@ use native.Mathlib.Nat.{le-trans}
 use mathlib.Core.Bool.{Bool, true, false, not}
 use mathlib.Core.List.{List}
 use lib.ListN.{length}
+use Rattle.model.specs.Limits.{mostNotes}
 use Rattle.random.specs.Play.{found, refused, on}
 use Rattle.random.specs.declared.Draws.{Draws}
 use Rattle.model.specs.declared.Object.{Object}
@@ -33,7 +34,7 @@ facts-are g c w o m h = h .facts ∙ ap (factsBy g c) (h .density)
 
 -- what was kept is a step of the walk
 module _ (entry exit words : List ℕ) (g : Song) (c : InForce) (w : Walk) (o : Object) (d e : Draws) (m : Met) (p : Pattern) (stair : Stair)
-    (h : Meets g c (w .density) o m) (size : 2050 ≤ length words) (deck : (p .count ≤ 2050) × (p .mask < 2 ^ g .columns) × (p .last < g .columns))
+    (h : Meets g c (w .density) o m) (size : mostNotes ≤ length words) (deck : (p .count ≤ mostNotes) × (p .mask < 2 ^ g .columns) × (p .last < g .columns))
     (says : found (madeBy (noteAt o) words p stair) e ≡ on (object (m .facts) (w .prev) (g .columns) o) d) where
   abbrev made : Made
   made = madeBy (noteAt o) words p stair
@@ -57,7 +58,7 @@ module _ (entry exit words : List ℕ) (g : Song) (c : InForce) (w : Walk) (o : 
             left
             ∙ ap₂ (λ (f : Facts) (q : Queue.Density). walkAfter f o q (p .mask) (p .last) stair (p .count) (walkOf w)) (facts-are g c w o m h) (h .density)
             ∙ ap (λ (n : ℕ). walkAfter (factsIn g c w o) o (densityAt w o) (p .mask) (p .last) stair n (walkOf w)) (sym counted);
-        few = subst (λ (n : ℕ). n ≤ 2050) (sym counted) (deck .0);
+        few = subst (λ (n : ℕ). n ≤ mostNotes) (sym counted) (deck .0);
         sound =
             record {
               held = k .2;

@@ -6,6 +6,7 @@ use mathlib.Core.List.{List, map}
 use lib.Dec.{ltb}
 use lib.Ieee.{Float}
 use lib.ListN.{length, take}
+use Rattle.model.specs.Limits.{mostNotes, mostEntries}
 use Rattle.random.specs.Play.{Answer, found, refused, on}
 use Rattle.random.specs.declared.Draws.{Draws}
 use Rattle.model.specs.declared.Object.{Object}
@@ -17,6 +18,7 @@ use Rattle.record.specs.Record.{parse, accepted, songOf, NearPlaces}
 use Rattle.record.specs.Lookup.{Rising}
 use Rattle.record.specs.declared.section.Section.the-variants.{TimingPoints, DifficultyPoints, EffectPoints}
 use Rattle.points.specs.Lasting.{BeatLasts, VelocityLasts, KiaiLasts}
+use Rattle.chart.specs.Layout.{chartSize}
 use Rattle.chart.specs.Bytes.{splice}
 use Rattle.mania.specs.declared.Facts.{Facts}
 use Rattle.mania.specs.declared.Note.{Note}
@@ -89,12 +91,12 @@ pub record Meets (g : Song) (c : InForce) (before : Density) (o : Object) (m : M
 
 -- a chart of the notes so far and so many more is longer than the buffer
 abbrev pub tooLong : List ℕ → Walk → ℕ → Bool
-tooLong entry w n = ltb (length entry) (8 + 17 * (w .notes + n))
+tooLong entry w n = ltb (length entry) (chartSize (w .notes + n))
 
 -- the notes are written after those before, and the walk goes on, unless the chart is too short for them
 abbrev pub KeepsBy : (entry exit words : List ℕ) → Object → Met → Pattern → Stair → Walk → Bool → Walk → Type 0
 KeepsBy entry exit words o m p stair w true x =
-    (tooLong entry w (p .count) ≡ false) × (exit ≡ splice entry (8 + 17 * w .notes) (body (map (noteAt o) (take (p .count) words))))
+    (tooLong entry w (p .count) ≡ false) × (exit ≡ splice entry (chartSize (w .notes)) (body (map (noteAt o) (take (p .count) words))))
     × Held (x .density) × (walkOf x ≡ walkAfter (m .facts) o (queued (m .density)) (p .mask) (p .last) stair (p .count) (walkOf w))
 KeepsBy entry exit words o m p stair w false x = tooLong entry w (p .count) ≡ true
 
@@ -128,9 +130,9 @@ pub record Next (entry exit : List ℕ) (g : Song) (c : InForce) (w : Walk) (o :
   pub made : Made
   pub says : objectRule g c w o d ≡ found made e
   pub room : tooLong entry w (length (made .notes)) ≡ false
-  pub written : exit ≡ splice entry (8 + 17 * w .notes) (body (made .notes))
+  pub written : exit ≡ splice entry (chartSize (w .notes)) (body (made .notes))
   pub after : walkOf x ≡ afterObject (factsIn g c w o) o (densityAt w o) made (walkOf w)
-  pub few : length (made .notes) ≤ 2050
+  pub few : length (made .notes) ≤ mostNotes
   pub sound : Sound (g .columns) x
 
 -- its rule is refused, or its notes are too long for the buffer
@@ -156,8 +158,8 @@ pub record Written (walked : Answer Stop (List (List Note))) (entry exit : List 
   pub says : walked ≡ found nss e
   pub written : exit ≡ splice entry 8 (body (inWalkOrder nss))
   pub number : notes ≡ length (inWalkOrder nss)
-  pub few : notes ≤ 2050 * 4095
-  pub room : 8 + 17 * notes ≤ length entry
+  pub few : notes ≤ mostNotes * mostEntries
+  pub room : chartSize notes ≤ length entry
 
 abbrev pub Ends : Answer Stop (List (List Note)) → (entry exit : List ℕ) → WalkEnd → Type 0
 Ends walked entry exit (E.Made notes e) = Written walked entry exit notes e

@@ -3,6 +3,8 @@ ghost use mathlib.Core.Path.{_≡_};
 ghost use Prim.Native.Nat.{ℕ, _+_, _^_, _≤_, _<_};
 ghost use mathlib.Core.List.{List};
 ghost use lib.ListN.{length};
+ghost use Rattle.chart.specs.Layout.{mostInChart};
+ghost use Rattle.model.specs.Limits.{mostEntries, mostNotes};
 ghost use Rattle.rules.specs.Each.{Each};
 ghost use Rattle.record.specs.Object.{objects};
 ghost use Rattle.mania.specs.Convert as Convert;
@@ -13,6 +15,8 @@ ghost use Rattle.density.specs.Queued.{Held, queued};
 ghost use Rattle.walk.specs.declared.Song.{Song};
 ghost use Rattle.walk.specs.Kept.{walkOf};
 ghost use Rattle.walk.specs.Steps.{OfRecord, InForceOf, InForceAt, Meets, Keeps, Finishes, Sound, Steps, rule, Ends};
+use chart::layout::HEADER_SIZE;
+use chart::layout::NOTE_SIZE;
 use density::Density;
 use density::compute_density;
 use density::node_time;
@@ -271,18 +275,18 @@ fn keep(
     stair: Stair,
     w: Walk,
 ) -> Kept
-    requires { ⌜ Held (m .density) × (p .count ≤ 2050) × (2050 ≤ length (now words)) × (w .notes ≤ 16777215) ⌝ }
+    requires { ⌜ Held (m .density) × (p .count ≤ mostNotes) × (mostNotes ≤ length (now words)) × (w .notes ≤ mostInChart) ⌝ }
     ensures { λ r. ⌜ Keeps (now (chart .entry)) (now (chart .exit)) (now (words .entry)) o m p stair w r ⌝ }
 {
     let count = p.count;
     let before = w.notes as usize;
-    if chart.len() < 8 + 17 * (before + count) {
+    if chart.len() < HEADER_SIZE + NOTE_SIZE * (before + count) {
         return Kept {
             fits: false,
             walk: w,
         };
     }
-    put_notes(o, words, count, chart, 8 + 17 * before);
+    put_notes(o, words, count, chart, HEADER_SIZE + NOTE_SIZE * before);
     let met = m.density;
     let f = m.facts;
     let walk = after_object(f, o, met, p.mask, p.last, stair, count as u32, w);
@@ -308,7 +312,7 @@ fn finish(
     w: Walk,
     d: Draws,
 ) -> Step
-    requires { ⌜ Held (m .density) × (p .count ≤ 2050) × (2050 ≤ length (now words)) × (w .notes ≤ 16777215) ⌝ }
+    requires { ⌜ Held (m .density) × (p .count ≤ mostNotes) × (mostNotes ≤ length (now words)) × (w .notes ≤ mostInChart) ⌝ }
     ensures { λ r. ⌜ Finishes (now (chart .entry)) (now (chart .exit)) (now (words .entry)) o m p stair w d r ⌝ }
 {
     let kept = keep(chart, words, o, m, p, stair, w);
@@ -333,7 +337,7 @@ fn convert_object(
     o: Object,
     d: Draws,
 ) -> Step
-    requires { ⌜ (1 ≤ g .columns) × (g .columns ≤ 9) × Sound (g .columns) w × InRange o × (w .notes ≤ 16777215) × (2050 ≤ length (now words)) × (2050 ≤ length (now spare)) ⌝ }
+    requires { ⌜ (1 ≤ g .columns) × (g .columns ≤ 9) × Sound (g .columns) w × InRange o × (w .notes ≤ mostInChart) × (mostNotes ≤ length (now words)) × (mostNotes ≤ length (now spare)) ⌝ }
     ensures { λ r. ⌜ Steps (now (chart .entry)) (now (chart .exit)) g c w o d r ⌝ }
 {
     let before = w.density;
@@ -389,7 +393,7 @@ pub fn walk_objects(
     count: u32,
     d: Draws,
 ) -> WalkEnd
-    requires { ⌜ OfRecord (now bytes) g × Each InRange (objects (now part) at count) × (at ≤ 7) × (count ≤ 4095) × (8 ≤ length (now chart)) × (2050 ≤ length (now words)) × (2050 ≤ length (now spare)) ⌝ }
+    requires { ⌜ OfRecord (now bytes) g × Each InRange (objects (now part) at count) × (at ≤ 7) × (count ≤ mostEntries) × (8 ≤ length (now chart)) × (mostNotes ≤ length (now words)) × (mostNotes ≤ length (now spare)) ⌝ }
     ensures { λ r. ⌜ Ends (rule (now (bytes .entry)) (now (part .entry)) g (length (now (chart .entry))) at count d) (now (chart .entry)) (now (chart .exit)) r ⌝ }
 {
     let mut w = beginning();

@@ -13,6 +13,7 @@ use lib.ListN.{length, getD, take, drop, set, length-append, length-drop}
 use lib.Seq.{take-at, take-add, drop-at, drop-drop, getD-drop, length-take-le}
 use borrow.Author.Tests.{le-leb, lt-leb}
 use Rattle.rules.specs.Each.{Each}
+use Rattle.chart.specs.Layout.{chartSize, noteSize}
 use Rattle.chart.specs.declared.Note.{Note}
 use Rattle.chart.specs.Bytes.{Bytes, be, num, splice}
 use Rattle.chart.specs.Chart.{noteBytes, body, header, encode, noteOf, notesOf, Holds}
@@ -21,7 +22,7 @@ use Rattle.chart.specs.Laws.Times.{le-or-lt}
 
 -- ---- lengths and joins
 
-pub length-note : (n : Note) → length (noteBytes n) ≡ 17
+pub length-note : (n : Note) → length (noteBytes n) ≡ noteSize
 unfolding noteBytes
 length-note n = ap suc (length-append (be 8 (n .start)) (be 8 (n .duration)) ∙ omega (arith, length-be 8 (n .start), length-be 8 (n .duration)))
 
@@ -38,7 +39,7 @@ pub body-one : (n : Note) → body (n ∷ []) ≡ noteBytes n
 unfolding body noteBytes
 body-one n = ap (λ (t : List ℕ). (n .column * 16 + cond (n .hold) 8 0) ∷ t) (append-nil (be 8 (n .start) ++ be 8 (n .duration)))
 
-pub length-body : (ns : List Note) → length (body ns) ≡ 17 * length ns
+pub length-body : (ns : List Note) → length (body ns) ≡ noteSize * length ns
 unfolding body
 length-body [] = refl
 length-body (n ∷ ns) = length-append (noteBytes n) (body ns) ∙ omega (arith, length-note n, length-body ns)
@@ -47,7 +48,7 @@ pub length-header : (columns count draws : ℕ) → length (header columns count
 unfolding header
 length-header columns count draws = ap suc (length-append (be 3 count) (be 4 draws) ∙ omega (arith, length-be 3 count, length-be 4 draws))
 
-pub length-encode : (columns draws : ℕ) (ns : List Note) → length (encode columns draws ns) ≡ 8 + 17 * length ns
+pub length-encode : (columns draws : ℕ) (ns : List Note) → length (encode columns draws ns) ≡ chartSize (length ns)
 unfolding encode
 length-encode columns draws ns =
     length-append (header columns (length ns) draws) (body ns) ∙ omega (arith, length-header columns (length ns) draws, length-body ns)
@@ -55,7 +56,7 @@ length-encode columns draws ns =
 pub length-notesOf : (k : ℕ) (s : List ℕ) → length (notesOf k s) ≡ k
 unfolding notesOf
 length-notesOf zero s = refl
-length-notesOf (suc k) s = ap suc (length-notesOf k (drop 17 s))
+length-notesOf (suc k) s = ap suc (length-notesOf k (drop noteSize s))
 
 -- ---- the bytes that code reads and stores
 
@@ -65,7 +66,7 @@ unfolding noteOf
 note-at s i b d = rw (getD-drop i s 0 0, add-zero i, drop-drop 1 i s, drop-drop 9 i s, b, d)
 
 -- the stores of a note's bytes, one by one
-pub note-put : {h : ℕ} (s : List ℕ) (i : ℕ) (n : Note) → h ≡ n .column * 16 + cond (n .hold) 8 0 → i + 17 ≤ length s
+pub note-put : {h : ℕ} (s : List ℕ) (i : ℕ) (n : Note) → h ≡ n .column * 16 + cond (n .hold) 8 0 → i + noteSize ≤ length s
     → splice (splice (set s i h) (i + 1) (be 8 (n .start))) (i + 9) (be 8 (n .duration)) ≡ splice s i (noteBytes n)
 unfolding noteBytes
 note-put {h} s i n e l =
@@ -75,7 +76,7 @@ note-put {h} s i n e l =
     (rw (splice-next s i (h ∷ []) (i + 1) b refl (omega (arith, length-be 8 (n .start))))
     (splice-next s i (h ∷ b) (i + 9) (be 8 (n .duration)) first (omega (arith, length-be 8 (n .duration))) ∙ rw e refl))
 
-pub note-put-mid : {h : ℕ} (s : List ℕ) (i : ℕ) (n : Note) → h ≡ n .column * 16 + cond (n .hold) 8 0 → i + 17 ≤ length s
+pub note-put-mid : {h : ℕ} (s : List ℕ) (i : ℕ) (n : Note) → h ≡ n .column * 16 + cond (n .hold) 8 0 → i + noteSize ≤ length s
     → splice (set (splice s (i + 1) (be 8 (n .start))) i h) (i + 9) (be 8 (n .duration)) ≡ splice s i (noteBytes n)
 unfolding noteBytes
 note-put-mid {h} s i n e l =
@@ -96,7 +97,7 @@ header-put s columns count draws l =
     (splice-next s 0 (a ∷ b) 4 (be 4 draws) first (omega (arith, length-be 4 draws))))
 
 -- a header, and then the notes
-pub encode-put : (s : List ℕ) (columns draws : ℕ) (ns : List Note) → 8 + 17 * length ns ≤ length s
+pub encode-put : (s : List ℕ) (columns draws : ℕ) (ns : List Note) → chartSize (length ns) ≤ length s
     → splice (splice s 0 (header columns (length ns) draws)) 8 (body ns) ≡ splice s 0 (encode columns draws ns)
 unfolding encode
 encode-put s columns draws ns l =
@@ -126,8 +127,8 @@ kind-back : (a : ℕ) → a % 8 ≡ 0 → a ≡ a / 16 * 16 + cond (leb 8 (a % 1
 kind-back a h =
     ⊎-elim (λ (l : 8 ≤ a % 16). rw (le-leb 8 (a % 16) l) (omega arith)) (λ (l : a % 16 < 8). rw (lt-leb 8 (a % 16) l) (omega arith)) (le-or-lt 8 (a % 16))
 
--- 17 bytes with zero bits in their place are those of the note that they say
-pub row-back : (s : List ℕ) → 17 ≤ length s → Bytes s → getD s 0 0 % 8 ≡ 0 → s ≡ noteBytes (noteOf s) ++ drop 17 s
+-- the bytes of a note with zero bits in their place are those of the note that they say
+pub row-back : (s : List ℕ) → noteSize ≤ length s → Bytes s → getD s 0 0 % 8 ≡ 0 → s ≡ noteBytes (noteOf s) ++ drop noteSize s
 unfolding noteBytes noteOf
 row-back [] l h z = absurd (omega arith)
 row-back (a ∷ r) l h z =
@@ -151,7 +152,7 @@ Fits ns = Each Fit ns
 pub fits-notes : (k : ℕ) (s : List ℕ) → Bytes s → Fits (notesOf k s)
 unfolding notesOf
 fits-notes zero s h = tt
-fits-notes (suc k) s h = (fit-note s h, fits-notes k (drop 17 s) (bytes-drop 17 s h))
+fits-notes (suc k) s h = (fit-note s h, fits-notes k (drop noteSize s) (bytes-drop noteSize s h))
 
 -- notes that were stored are read back
 pub notes-back : (ns : List Note) (r : List ℕ) → Fits ns → notesOf (length ns) (body ns ++ r) ≡ ns
@@ -160,7 +161,7 @@ notes-back [] r f = refl
 notes-back (n ∷ ns) r f =
     rw (append-assoc (noteBytes n) (body ns) r)
     (ap₂ (λ (a : Note) (b : List Note). a ∷ b) (note-back n (body ns ++ r) (f .0 .start) (f .0 .duration))
-    (rw (drop-at (noteBytes n) (body ns ++ r) 17 (length-note n)) (notes-back ns r (f .1))))
+    (rw (drop-at (noteBytes n) (body ns ++ r) noteSize (length-note n)) (notes-back ns r (f .1))))
 
 module _ (s : List ℕ) (i : ℕ) (ns : List Note) (within : i ≤ length s) where
   after : drop i (splice s i (body ns)) ≡ body ns ++ drop (i + length (body ns)) s
@@ -172,36 +173,36 @@ module _ (s : List ℕ) (i : ℕ) (ns : List Note) (within : i ≤ length s) whe
 
   pub splice-holds : Fits ns → Holds (splice s i (body ns)) i (length ns)
   unfolding Holds
-  splice-holds f = rw (splice-notes f) (rw after (take-at (body ns) (drop (i + length (body ns)) s) (17 * length ns) (length-body ns)))
+  splice-holds f = rw (splice-notes f) (rw after (take-at (body ns) (drop (i + length (body ns)) s) (noteSize * length ns) (length-body ns)))
 
 -- one more note
-pub notes-more : (k : ℕ) (s : List ℕ) → notesOf (k + 1) s ≡ notesOf k s ++ (noteOf (drop (17 * k) s) ∷ [])
+pub notes-more : (k : ℕ) (s : List ℕ) → notesOf (k + 1) s ≡ notesOf k s ++ (noteOf (drop (noteSize * k) s) ∷ [])
 unfolding notesOf
 notes-more k s = rw (add-one k) (more k s)
   where
-    more : (k : ℕ) (s : List ℕ) → notesOf (suc k) s ≡ notesOf k s ++ (noteOf (drop (17 * k) s) ∷ [])
+    more : (k : ℕ) (s : List ℕ) → notesOf (suc k) s ≡ notesOf k s ++ (noteOf (drop (noteSize * k) s) ∷ [])
     more zero s = refl
     more (suc k) s =
-        let e : 17 + 17 * k ≡ 17 * suc k = omega arith in
-        ap (λ (t : List Note). noteOf s ∷ t) (more k (drop 17 s) ∙ rw (drop-drop (17 * k) 17 s, e))
+        let e : noteSize + noteSize * k ≡ noteSize * suc k = omega arith in
+        ap (λ (t : List Note). noteOf s ∷ t) (more k (drop noteSize s) ∙ rw (drop-drop (noteSize * k) noteSize s, e))
 
-pub holds-more : (s : List ℕ) (i k : ℕ) → i + 17 * k + 17 ≤ length s → Bytes s → getD s (i + 17 * k) 0 % 8 ≡ 0 → Holds s i k → Holds s i (k + 1)
+pub holds-more : (s : List ℕ) (i k : ℕ) → i + noteSize * k + noteSize ≤ length s → Bytes s → getD s (i + noteSize * k) 0 % 8 ≡ 0 → Holds s i k → Holds s i (k + 1)
 unfolding Holds
 holds-more s i k l h z holds =
-    let r : List ℕ = drop (i + 17 * k) s in
-    let first : getD r 0 0 % 8 ≡ 0 = rw (getD-drop (i + 17 * k) s 0 0, add-zero (i + 17 * k)) z in
-    let row = row-back r (rw (length-drop (i + 17 * k) s) (omega arith)) (bytes-drop (i + 17 * k) s h) first in
-    let next : take 17 r ≡ noteBytes (noteOf r) = ap (take 17) row ∙ take-at (noteBytes (noteOf r)) (drop 17 r) 17 (length-note (noteOf r)) in
-    let size : 17 * (k + 1) ≡ 17 * k + 17 = omega arith in
-    rw (size, take-add (17 * k) 17 (drop i s), drop-drop (17 * k) i s, notes-more k (drop i s), body-append, body-one, drop-drop (17 * k) i s) (rw (holds, next))
+    let r : List ℕ = drop (i + noteSize * k) s in
+    let first : getD r 0 0 % 8 ≡ 0 = rw (getD-drop (i + noteSize * k) s 0 0, add-zero (i + noteSize * k)) z in
+    let row = row-back r (rw (length-drop (i + noteSize * k) s) (omega arith)) (bytes-drop (i + noteSize * k) s h) first in
+    let next : take noteSize r ≡ noteBytes (noteOf r) = ap (take noteSize) row ∙ take-at (noteBytes (noteOf r)) (drop noteSize r) noteSize (length-note (noteOf r)) in
+    let size : noteSize * (k + 1) ≡ noteSize * k + noteSize = omega arith in
+    rw (size, take-add (noteSize * k) noteSize (drop i s), drop-drop (noteSize * k) i s, notes-more k (drop i s), body-append, body-one, drop-drop (noteSize * k) i s) (rw (holds, next))
 
 -- the note of an index, and its start
-pub notes-at : (k : ℕ) (s : List ℕ) (i : ℕ) (d : Note) → i < k → getD (notesOf k s) i d ≡ noteOf (drop (17 * i) s)
+pub notes-at : (k : ℕ) (s : List ℕ) (i : ℕ) (d : Note) → i < k → getD (notesOf k s) i d ≡ noteOf (drop (noteSize * i) s)
 unfolding notesOf
 notes-at zero s i d h = absurd (omega arith)
 notes-at (suc k) s zero d h = refl
-notes-at (suc k) s (suc i) d h = let e : 17 + 17 * i ≡ 17 * suc i = omega arith in notes-at k (drop 17 s) i d (omega arith) ∙ rw (drop-drop (17 * i) 17 s, e)
+notes-at (suc k) s (suc i) d h = let e : noteSize + noteSize * i ≡ noteSize * suc i = omega arith in notes-at k (drop noteSize s) i d (omega arith) ∙ rw (drop-drop (noteSize * i) noteSize s, e)
 
-pub start-at : (k : ℕ) (s : List ℕ) (from i : ℕ) (d : Note) → i < k → getD (notesOf k (drop from s)) i d .start ≡ num 8 (drop (from + 17 * i + 1) s)
+pub start-at : (k : ℕ) (s : List ℕ) (from i : ℕ) (d : Note) → i < k → getD (notesOf k (drop from s)) i d .start ≡ num 8 (drop (from + noteSize * i + 1) s)
 unfolding noteOf
-start-at k s from i d h = ap (λ (n : Note). n .start) (notes-at k (drop from s) i d h) ∙ rw (drop-drop (17 * i) from s, drop-drop 1 (from + 17 * i) s)
+start-at k s from i d h = ap (λ (n : Note). n .start) (notes-at k (drop from s) i d h) ∙ rw (drop-drop (noteSize * i) from s, drop-drop 1 (from + noteSize * i) s)

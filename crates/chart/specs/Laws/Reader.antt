@@ -12,11 +12,13 @@ use lib.ListN.{length, getD, drop}
 use lib.Seq.{getD-drop, drop-drop}
 use borrow.Author.Tests.{ne-eqb, eq-eqb, le-leb, eqb-true}
 use Rattle.floats.specs.Ticks.{ticks}
+use Rattle.chart.specs.Layout.{chartSize, noteSize}
 use Rattle.chart.specs.declared.Note.{Note}
 use Rattle.chart.specs.Tests.{every, passes, fails, both}
 use Rattle.chart.specs.Time.{time, isTime, latest}
 use Rattle.chart.specs.Chart.{Score, refused, accepted, reading, readingOf, columnsOf, countOf, decode, drawsOf, headTests, lasts, noteIn, noteOf, notesOf, noteTests, okChart, okHead, okNote, okNotes, okRow, okRows, scoreOf}
-use Rattle.chart.specs.Laws.Times.{infinity, time-fits}
+use Rattle.floats.specs.Format.{infinity}
+use Rattle.chart.specs.Laws.Times.{time-fits}
 use Rattle.chart.specs.Laws.Notes.{length-notesOf, notes-at}
 
 -- the times of a note that may stand in a chart
@@ -39,14 +41,14 @@ pub head-refused : (s : List ℕ) (i : ℕ) → getD (headTests s) i true ≡ fa
 unfolding okHead
 head-refused s i h = sym (fails (headTests s) i h)
 
-pub head-decided : (s : List ℕ) → 8 ≤ length s → getD s 0 0 / 16 ≡ 1 → 1 ≤ columnsOf s → columnsOf s ≤ 9 → eqb (length s) (8 + 17 * countOf s) ≡ okHead s
+pub head-decided : (s : List ℕ) → 8 ≤ length s → getD s 0 0 / 16 ≡ 1 → 1 ≤ columnsOf s → columnsOf s ≤ 9 → eqb (length s) (chartSize (countOf s)) ≡ okHead s
 unfolding okHead headTests every
 head-decided s t0 t1 t2 t3 =
-    rw (le-leb 8 (length s) t0, eq-eqb (getD s 0 0 / 16) 1 t1, le-leb 1 (columnsOf s) t2, le-leb (columnsOf s) 9 t3, and-true (eqb (length s) (8 + 17 * countOf s)))
+    rw (le-leb 8 (length s) t0, eq-eqb (getD s 0 0 / 16) 1 t1, le-leb 1 (columnsOf s) t2, le-leb (columnsOf s) 9 t3, and-true (eqb (length s) (chartSize (countOf s))))
 
-pub head-size : (s : List ℕ) → okHead s ≡ true → length s ≡ 8 + 17 * countOf s
+pub head-size : (s : List ℕ) → okHead s ≡ true → length s ≡ chartSize (countOf s)
 unfolding okHead headTests
-head-size s h = eqb-true (length s) (8 + 17 * countOf s) (passes (headTests s) h 4)
+head-size s h = eqb-true (length s) (chartSize (countOf s)) (passes (headTests s) h 4)
 
 -- ---- the reader's answers
 
@@ -66,29 +68,29 @@ pub rows-end : (columns last count i : ℕ) (s : List ℕ) → count ≤ i → o
 unfolding okRows
 rows-end columns last count i s h = let e : count - i ≡ 0 = omega arith in rw e
 
--- ---- the rows from the i-th on, at index 8 + 17 * i
+-- ---- the rows from the i-th on
 
 module _ (columns last count i : ℕ) (s : List ℕ) (more : i < count) where
-  from-row : okRows columns last (count - i) (drop (8 + 17 * i) s)
-      ≡ okRow columns last (drop (8 + 17 * i) s) && okRows columns (noteOf (drop (8 + 17 * i) s) .start) (count - (i + 1)) (drop (8 + 17 * (i + 1)) s)
+  from-row : okRows columns last (count - i) (drop (chartSize i) s)
+      ≡ okRow columns last (drop (chartSize i) s) && okRows columns (noteOf (drop (chartSize i) s) .start) (count - (i + 1)) (drop (chartSize (i + 1)) s)
   unfolding okRows
   from-row =
       let one : count - i ≡ suc (count - (i + 1)) = omega arith in
-      let next : 8 + 17 * (i + 1) ≡ 8 + 17 * i + 17 = omega arith in
-      rw (one, next, ← drop-drop 17 (8 + 17 * i) s)
+      let next : chartSize (i + 1) ≡ chartSize i + noteSize = omega arith in
+      rw (one, next, ← drop-drop noteSize (chartSize i) s)
 
-  pub row-next : getD s (8 + 17 * i) 0 % 8 ≡ 0 → okNote columns last (noteOf (drop (8 + 17 * i) s)) ≡ true
-      → okRows columns last (count - i) (drop (8 + 17 * i) s) ≡ okRows columns (noteOf (drop (8 + 17 * i) s) .start) (count - (i + 1)) (drop (8 + 17 * (i + 1)) s)
+  pub row-next : getD s (chartSize i) 0 % 8 ≡ 0 → okNote columns last (noteOf (drop (chartSize i) s)) ≡ true
+      → okRows columns last (count - i) (drop (chartSize i) s) ≡ okRows columns (noteOf (drop (chartSize i) s) .start) (count - (i + 1)) (drop (chartSize (i + 1)) s)
   unfolding okRow
-  row-next z ok = from-row ∙ rw (getD-drop (8 + 17 * i) s 0 0, add-zero (8 + 17 * i), z, ok)
+  row-next z ok = from-row ∙ rw (getD-drop (chartSize i) s 0 0, add-zero (chartSize i), z, ok)
 
-  pub row-zeros : (getD s (8 + 17 * i) 0 % 8 ≡ 0 → ⊥) → okRows columns last (count - i) (drop (8 + 17 * i) s) ≡ false
+  pub row-zeros : (getD s (chartSize i) 0 % 8 ≡ 0 → ⊥) → okRows columns last (count - i) (drop (chartSize i) s) ≡ false
   unfolding okRow
-  row-zeros z = from-row ∙ rw (getD-drop (8 + 17 * i) s 0 0, add-zero (8 + 17 * i), ne-eqb (getD s (8 + 17 * i) 0 % 8) 0 z)
+  row-zeros z = from-row ∙ rw (getD-drop (chartSize i) s 0 0, add-zero (chartSize i), ne-eqb (getD s (chartSize i) 0 % 8) 0 z)
 
-  pub row-note : okNote columns last (noteOf (drop (8 + 17 * i) s)) ≡ false → okRows columns last (count - i) (drop (8 + 17 * i) s) ≡ false
+  pub row-note : okNote columns last (noteOf (drop (chartSize i) s)) ≡ false → okRows columns last (count - i) (drop (chartSize i) s) ≡ false
   unfolding okRow
-  row-note bad = from-row ∙ rw (bad, and-false (eqb (getD (drop (8 + 17 * i) s) 0 0 % 8) 0))
+  row-note bad = from-row ∙ rw (bad, and-false (eqb (getD (drop (chartSize i) s) 0 0 % 8) 0))
 
 -- ---- what an accepted chart has
 
@@ -104,9 +106,9 @@ rows-notes : (c l k : ℕ) (s : List ℕ) → okRows c l k s ≡ true → okNote
 unfolding okRows okRow okNotes notesOf
 rows-notes c l zero s ok = refl
 rows-notes c l (suc k) s ok =
-    let here = both (okRow c l s) (okRows c (noteOf s .start) k (drop 17 s)) ok in
+    let here = both (okRow c l s) (okRows c (noteOf s .start) k (drop noteSize s)) ok in
     let row = both (eqb (getD s 0 0 % 8) 0) (okNote c l (noteOf s)) (here .0) in
-    rw (row .1) (rows-notes c (noteOf s .start) k (drop 17 s) (here .1))
+    rw (row .1) (rows-notes c (noteOf s .start) k (drop noteSize s) (here .1))
 
 -- its notes keep the rule
 pub notes-ok : (s : List ℕ) (c : Score) → decode s ≡ some c → okNotes (c .columns) 0 (c .notes) ≡ true
@@ -123,8 +125,8 @@ note-read s c e i d l =
     let notes : notesOf (countOf s) (drop 8 s) ≡ c .notes = ap (λ (t : Score). t .notes) (k .1) in
     let below : i < countOf s = omega (arith, ap (λ (t : List Note). length t) notes, length-notesOf (countOf s) (drop 8 s)) in
     let size = head-size s (both (okHead s) (okRows (columnsOf s) 0 (countOf s) (drop 8 s)) (k .0) .0) in
-    let room : 8 + 17 * i + 17 ≤ length s = omega arith in
-    rw (le-leb (8 + 17 * i + 17) (length s) room, ← notes, notes-at (countOf s) (drop 8 s) i d below, drop-drop (17 * i) 8 s)
+    let room : chartSize i + noteSize ≤ length s = omega arith in
+    rw (le-leb (chartSize i + noteSize) (length s) room, ← notes, notes-at (countOf s) (drop 8 s) i d below, drop-drop (noteSize * i) 8 s)
 
 -- the times of each of its notes
 pub notes-times : (c l : ℕ) (ns : List Note) → okNotes c l ns ≡ true → (i : ℕ) (d : Note) → i < length ns → (getD ns i d .start < infinity) × (getD ns i d .duration < infinity)

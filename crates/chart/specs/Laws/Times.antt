@@ -16,6 +16,7 @@ use lib.Ieee.Fits.{up-pos, down-pos}
 use lib.Ieee.Positive.{num, den, den-pos}
 use lib.Ieee.Scale.{finite}
 use borrow.Author.Tests.{lt-ltb, le-ltb, le-leb, lt-leb, ne-eqb}
+use Rattle.floats.specs.Format.{infinity}
 use Rattle.floats.specs.Range.{inRange, negativeZero}
 use Rattle.floats.specs.Ticks.{ticks}
 use Rattle.floats.specs.Laws.Values.{le-not-lt, lt-value, Sized}
@@ -63,9 +64,6 @@ unfolding isTime inRange
 finite-time x h = rw h
 
 -- ---- the times are the patterns below that of infinity
-
-abbrev pub infinity : ℕ
-infinity = 0x7ff0_0000_0000_0000
 
 pub time-below : (b : ℕ) → b < infinity → isTime (time b) ≡ true
 time-below b h = value-time (time b) (sizeOf binary64 b) (2 ^ 1074) (pow-pos 1074) (small-value binary64 b h)

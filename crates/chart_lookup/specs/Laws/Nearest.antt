@@ -18,7 +18,8 @@ use borrow.Author.Tests.{eqb-true, eqb-false, ltb-true, ltb-false, le-leb, lt-le
 use Rattle.floats.specs.Ticks.{ticks}
 use Rattle.chart.specs.declared.Note.{Note}
 use Rattle.chart.specs.Time.{time}
-use Rattle.chart.specs.Laws.Times.{infinity, ticks-mono, le-or-lt}
+use Rattle.floats.specs.Format.{infinity}
+use Rattle.chart.specs.Laws.Times.{ticks-mono, le-or-lt}
 use Rattle.exact_times.specs.Laws.Instants.{ticks-le, farther-after, farther-before, strictly-farther}
 use Rattle.chart_lookup.specs.Lookup.{nothing, found, notesIn, blank}
 use Rattle.chart_lookup.specs.Search.{Parts, Next, Last}

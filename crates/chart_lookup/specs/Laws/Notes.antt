@@ -13,7 +13,8 @@ use borrow.Author.Tests.{leb-true}
 use Rattle.chart.specs.declared.Note.{Note}
 use Rattle.chart.specs.Tests.{both, passes}
 use Rattle.chart.specs.Chart.{Score, accepted, readingOf, decode, noteIn, okNote, okNotes, noteTests}
-use Rattle.chart.specs.Laws.Times.{infinity, ticks-leb}
+use Rattle.floats.specs.Format.{infinity}
+use Rattle.chart.specs.Laws.Times.{ticks-leb}
 use Rattle.chart.specs.Laws.Reader.{notes-ok, note-fits, note-read, notes-times}
 use Rattle.chart_lookup.specs.declared.Wanted.{Wanted}
 use Rattle.chart_lookup.specs.Lookup.{listed, looked, notesRead, notesIn, blank}

@@ -7,15 +7,16 @@ use native.Mathlib.Nat.{sub-zero}
 use borrow.Author.Needs.{needs}
 use borrow.Author.Tests.{not-true, not-false}
 use lib.ListN.{length, drop}
+use Rattle.chart.specs.Layout.{chartSize}
 use Rattle.chart.specs.Chart.{okHead, okRows, columnsOf, countOf, drawsOf}
-use Rattle.chart.specs.Laws.Times.{infinity}
+use Rattle.floats.specs.Format.{infinity}
 use Rattle.chart.specs.Laws.Reader.{refused-head, refused-rows, all-pass, head-size, rows-end, row-zeros, row-note, row-next, note-fits}
 use Rattle.chart_reader.proofs.read.Statement.{statement}
 use Rattle.chart_reader.proofs.read.Tie as tie
 
 abbrev Inv-loop : tie.InvT-loop
 Inv-loop chart columns notes count last₀ i₀ last i =
-    (i ≤ count) × ((last < infinity) × (okRows columns last (count - i) (drop (8 + 17 * i) chart) ≡ okRows columns 0 count (drop 8 chart)))
+    (i ≤ count) × ((last < infinity) × (okRows columns last (count - i) (drop (chartSize i) chart) ≡ okRows columns 0 count (drop 8 chart)))
 
 abbrev μ-loop : tie.MeasureT-loop
 μ-loop chart columns notes count last₀ i₀ last i = count - i
@@ -24,9 +25,9 @@ abbrev μ-loop : tie.MeasureT-loop
 okay : (c : tie.After-shared-slice-known2 Inv-loop μ-loop) → okHead (c .before .before .before .before .args .chart .now) ≡ true
 okay c = sym (c .before .before .header-ok .ensures) ∙ not-false _ (c .before .if1 .left)
 
-size : (c : tie.After-get Inv-loop μ-loop) → length (c .before .before .before .before .before .args .chart .now) ≡ 8 + 17 * c .get .result
+size : (c : tie.After-get Inv-loop μ-loop) → length (c .before .before .before .before .before .args .chart .now) ≡ chartSize (c .get .result)
 unfolding countOf
-size c = head-size _ (okay (c .before)) ∙ ap (λ (k : ℕ). 8 + 17 * k) (sym (c .get .ensures .0))
+size c = head-size _ (okay (c .before)) ∙ ap (λ (k : ℕ). chartSize k) (sym (c .get .ensures .0))
 
 header-ok-requires : tie.Need-header-ok-requires Inv-loop μ-loop
 header-ok-requires c κs = search needs

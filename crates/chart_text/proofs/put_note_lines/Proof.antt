@@ -5,6 +5,7 @@ use Prim.Native.Nat.{_+_, _-_, _*_, _≤_}
 use native.Mathlib.Nat.{add-zero}
 use native.Mathlib.Omega.{arith}
 use lib.ListN.{length, drop}
+use Rattle.chart.specs.Layout.{chartSize}
 use Rattle.chart.specs.Chart.{noteOf, notesOf}
 use Rattle.chart_text.specs.Text.{noteLine, noteLines}
 use Rattle.chart.specs.Laws.Bytes.{splice-none}
@@ -51,7 +52,7 @@ loop-again c =
     let l = note .before .before .loop in
     let a = note .before .before .before .before .before .args in
     let kept : length (put .put-note-line .last .0) ≡ length (a .s .now) = put .put-note-line .kept .0 ∙ l .inv .1 .1 .0 in
-    let line = wrote-next (noteLine (noteOf (drop (8 + 17 * l .i) (a .chart .now)))) (l .inv .1 .1 .1) (put .put-note-line .ensures .1 ∙ rw (note .note-at .ensures)) (put .put-note-line .ensures .0 .0 ∙ rw (note .note-at .ensures)) (omega arith) in
+    let line = wrote-next (noteLine (noteOf (drop (chartSize (l .i)) (a .chart .now)))) (l .inv .1 .1 .1) (put .put-note-line .ensures .1 ∙ rw (note .note-at .ensures)) (put .put-note-line .ensures .0 .0 ∙ rw (note .note-at .ensures)) (omega arith) in
     (omega arith, (omega arith, (kept, rw (lines-more (l .i) (a .chart .now)) line)))
 
 same-length : tie.Need-same-length Inv-loop μ-loop

@@ -19,7 +19,8 @@ use Rattle.floats.specs.Ticks.{ticks}
 use Rattle.floats.specs.Laws.Patterns.{value, special-bits, small-value, sizeOf, size-lt, le-bits}
 use Rattle.chart.specs.Time.{time}
 use Rattle.chart.specs.Tests.{never}
-use Rattle.chart.specs.Laws.Times.{infinity, ticks-mono, ticks-size, ticks-zero, ticks-leb, le-or-lt, time-toBits}
+use Rattle.floats.specs.Format.{infinity}
+use Rattle.chart.specs.Laws.Times.{ticks-mono, ticks-size, ticks-zero, ticks-leb, le-or-lt, time-toBits}
 use Rattle.exact_times.specs.declared.moments.Moment.the-variants.{At, Before}
 use Rattle.exact_times.specs.Instants.{instant, coversAt, insideAt, distance, Tells, FirstAt, FirstAfter}
 use Rattle.exact_times.specs.Laws.Orders.{same-ltb, not-ltb}

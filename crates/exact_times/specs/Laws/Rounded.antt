@@ -19,7 +19,8 @@ use Rattle.floats.specs.Laws.Patterns.{small-value}
 use Rattle.floats.specs.Laws.Values.{Sized, sized, own-round, rounded-kind, add-value, lt-value, le-not-lt}
 use Rattle.chart.specs.Time.{time}
 use Rattle.chart.specs.Tests.{never}
-use Rattle.chart.specs.Laws.Times.{infinity, ticks-size, le-or-lt}
+use Rattle.floats.specs.Format.{infinity}
+use Rattle.chart.specs.Laws.Times.{ticks-size, le-or-lt}
 
 cross : (x : Float) (a c : ℕ) → HasValue x false a c → num x * c ≡ a * den x
 cross nan a c h = absurd h

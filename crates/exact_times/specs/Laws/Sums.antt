@@ -12,7 +12,8 @@ use borrow.Author.Tests.{lt-ltb, le-ltb, le-leb, leb-true}
 use Rattle.floats.specs.Whole.{inUnits}
 use Rattle.floats.specs.Ticks.{ticks}
 use Rattle.chart.specs.Time.{time}
-use Rattle.chart.specs.Laws.Times.{infinity, ticks-size, ticks-leb, le-or-lt}
+use Rattle.floats.specs.Format.{infinity}
+use Rattle.chart.specs.Laws.Times.{ticks-size, ticks-leb, le-or-lt}
 use Rattle.exact_times.specs.declared.Order.the-variants.{Less, Greater}
 use Rattle.exact_times.specs.Compare.{orderOf}
 use Rattle.exact_times.specs.Digits.{digitsOf, powerOf, Number}

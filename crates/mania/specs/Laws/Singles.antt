@@ -26,6 +26,7 @@ use Rattle.mania.specs.Object.{object}
 use Rattle.mania.specs.Chart.{body, written}
 use Rattle.mania.specs.Laws.Tests.{and-l, four}
 use Rattle.mania.specs.Single.{made, patternFits, withRoom, entryRefusal, refusing, ending, singleObject}
+use Rattle.chart.specs.Layout.{noteSize}
 
 -- where 13 does not apply, the columns are 1 to 9, and mask and last column lie on them
 pub record Fits (v : PrevValues) (columns : ℕ) : Type 0 where
@@ -93,13 +94,13 @@ module _ (f : Facts) (v : PrevValues) (columns : ℕ) (o : Object) (r : Random) 
     single-refused x e h = stopped x e (refused-bind (object f v columns o) _ lent x e h)
 
     -- its notes are too long for the buffer: 11
-    pub single-full : (m : Made) (e : Draws) → on (object f v columns o) lent ≡ found m e → ltb (length buffer) (17 * length (m .notes)) ≡ true
+    pub single-full : (m : Made) (e : Draws) → on (object f v columns o) lent ≡ found m e → ltb (length buffer) (noteSize * length (m .notes)) ≡ true
         → singleObject f v columns o r a buffer ≡ refusing 11 r buffer
     unfolding withRoom play
     single-full m e h l = stopped 11 e (found-bind (object f v columns o) _ lent m e h ∙ rw l)
 
     -- it made its notes
-    pub single-made : (m : Made) (e : Draws) → on (object f v columns o) lent ≡ found m e → ltb (length buffer) (17 * length (m .notes)) ≡ false
+    pub single-made : (m : Made) (e : Draws) → on (object f v columns o) lent ≡ found m e → ltb (length buffer) (noteSize * length (m .notes)) ≡ false
         → singleObject f v columns o r a buffer
         ≡ record { answer = made (length (m .notes)) (m .mask) (m .last) (m .stair) (e .random) (a - e .tally .left); notes = written (body (m .notes)) buffer }
     unfolding withRoom play ending

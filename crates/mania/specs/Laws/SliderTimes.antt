@@ -11,6 +11,7 @@ use lib.Ieee.Back.{round-whole}
 use lib.Ieee.Exact.{HasValue}
 use lib.Ieee.Fits.{round-is, ofInt-fits}
 use lib.Ieee.Positive.{num, den, den-pos, value→cross}
+use Rattle.model.specs.Limits.{mostSpans}
 use Rattle.rules.specs.Rule.{if_then_else_}
 use Rattle.floats.specs.Narrow.{narrowed}
 use Rattle.floats.specs.Laws.Values.{Sized, UpTo, sized, mul-at-most, div-at-most, div-value, round-at-most, sum-at-most, add-ge}
@@ -132,7 +133,7 @@ int-whole : (n : ℕ) → n ≤ 2 ^ 53 → num (double# n) ≡ n * den (double# 
 unfolding ofInt
 int-whole n h = let x = round binary64 false n 1 in sym (mul-one (num x)) ∙ value→cross x n 1 (round-whole binary64 false n h)
 
-module _ (f : Facts) (o : Object) (spans : ℕ) (distance : Distance) (n : spans ≤ 1024) (d : UpTo 131072 (distanceOf distance)) (v : AtLeast 10 (f .velocity)) (b : UpTo 60000 (f .beat))
+module _ (f : Facts) (o : Object) (spans : ℕ) (distance : Distance) (n : spans ≤ mostSpans) (d : UpTo 131072 (distanceOf distance)) (v : AtLeast 10 (f .velocity)) (b : UpTo 60000 (f .beat))
     (m : AtLeast 3 (f .multiplier)) where
   abbrev start : ℕ
   start = startTime o
@@ -159,14 +160,14 @@ module _ (f : Facts) (o : Object) (spans : ℕ) (distance : Distance) (n : spans
   abbrev lasts : Float
   lasts = div binary64 whole (f .multiplier)
 
-  spans-upto : UpTo 1024 (double# spans)
-  spans-upto = int-upto spans 1024 (le-trans n (lit≤ tt)) n
+  spans-upto : UpTo mostSpans (double# spans)
+  spans-upto = int-upto spans mostSpans (le-trans n (lit≤ tt)) n
 
   path-upto : UpTo 786432000000 path
   path-upto = mul-at-most binary64 (distanceOf distance) (adjustedBeat (f .velocity) (f .beat)) 131072 6000000 d (adjusted (f .velocity) (f .beat) v b) (lit≤ tt)
 
   spanned-upto : UpTo 805306368000000 spanned
-  spanned-upto = mul-at-most binary64 path (double# spans) 786432000000 1024 path-upto spans-upto (lit≤ tt)
+  spanned-upto = mul-at-most binary64 path (double# spans) 786432000000 mostSpans path-upto spans-upto (lit≤ tt)
 
   whole-upto-hundredth : UpTo 805306368000000 whole
   whole-upto-hundredth = mul-at-most binary64 spanned (double 1 100) 805306368000000 1 spanned-upto hundredth-upto (lit≤ tt)
@@ -197,7 +198,7 @@ module _ (f : Facts) (o : Object) (spans : ℕ) (distance : Distance) (n : spans
       (le-of-mul-le-mul-right (le-trans (le-of-eq (mul-right-comm start (den S) (den x) ∙ ap (λ (z : ℕ). z * den S) (sym (int-whole start start-small)))) g) (den-pos x))
 
 -- ---- a larger distance has no earlier end: each step keeps the order, and so does the floor
-module _ (f : Facts) (o : Object) (spans : ℕ) (near far : Distance) (n : spans ≤ 1024) (d : UpTo 131072 (distanceOf near)) (e : UpTo 131072 (distanceOf far)) (v : AtLeast 10 (f .velocity))
+module _ (f : Facts) (o : Object) (spans : ℕ) (near far : Distance) (n : spans ≤ mostSpans) (d : UpTo 131072 (distanceOf near)) (e : UpTo 131072 (distanceOf far)) (v : AtLeast 10 (f .velocity))
     (b : UpTo 60000 (f .beat)) (m : AtLeast 3 (f .multiplier)) (h : Below (distanceOf near) (distanceOf far)) where
   pub end-mono : endTime f o spans near ≤ endTime f o spans far
   unfolding endTime

@@ -17,6 +17,7 @@ use Rattle.random.specs.Laws.Play as Play
 use Rattle.random.specs.Laws.Play.{follow, bind-on}
 use Rattle.random.specs.Laws.On.{found-bind, refused-bind}
 use Rattle.random.specs.Laws.Allowance.{found-run, refused-run}
+use Rattle.chart.specs.Layout.{chartSize}
 use Rattle.chart.specs.Bytes.{splice}
 use Rattle.mania.specs.declared.Note.{Note}
 use Rattle.model.specs.declared.Object.{Object}
@@ -60,7 +61,7 @@ module _ (s : Song) (difficulty : Float) (columns room i : ℕ) (w : Walk) where
 
     -- whether the notes made so far, and so many more, are too long for the buffer
     abbrev tooLong : Made → Bool
-    tooLong made = ltb room (8 + 17 * (w .notes + length (made .notes)))
+    tooLong made = ltb room (chartSize (w .notes + length (made .notes)))
 
     in-room : (made : Made) (e : Draws) → on (object facts (w .prev) columns o) d ≡ found made e → tooLong made ≡ false → on (objectIn columns room facts w o) d ≡ found made e
     unfolding objectIn play

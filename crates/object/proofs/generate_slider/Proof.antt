@@ -1,6 +1,7 @@
 -- `object::generate_slider` meets its contract. Assumes nothing.
 use mathlib.Core.Path.{subst}
 use native.Mathlib.Omega.{arith}
+use Rattle.model.specs.Limits.{mostNotes}
 use Rattle.random.specs.Play.{on}
 use Rattle.mania.specs.declared.PathObjectPatternGenerator.{PathObjectPatternGenerator}
 use Rattle.mania.specs.PathObject as PathObject
@@ -32,7 +33,7 @@ returns : tie.Need-returns
 returns c =
     let a = c .before .before .before .before .before .before .before .before .before .before .args in
     let k = c .before .before .before .before .generate-owned in
-    subst (λ (g : PathObjectPatternGenerator). Generates noteOfWord (k .last .1 .1 .0) (on (PathObject.generate g) (a .d)) 2050 (k .result)) (c .before .before .before .before .before .before .before .new .ensures) (k .ensures)
+    subst (λ (g : PathObjectPatternGenerator). Generates noteOfWord (k .last .1 .1 .0) (on (PathObject.generate g) (a .d)) mostNotes (k .result)) (c .before .before .before .before .before .before .before .new .ensures) (k .ensures)
 
 pub generate-slider-spec : {M : Type 1} → statement M
 generate-slider-spec =

@@ -2,6 +2,7 @@
 use mathlib.Core.Path.{sym, ap, subst, _∙_}
 use Prim.Native.Nat.{_≤_}
 use native.Mathlib.Omega.{arith}
+use Rattle.model.specs.Limits.{mostNotes}
 use Rattle.random.specs.Play.{found}
 use Rattle.mania.specs.declared.SliderNote.{SliderNote}
 use Rattle.mania.specs.Made.{Made}
@@ -27,7 +28,7 @@ enum-known-p c = search needs
 split-requires : tie.Need-split-requires
 split-requires c κs =
     let s = c .before .before .before .before .before .before .before .before .before .before .before .before in
-    let few = subst (λ (r : Placed). many r ≤ 2050) (c .before .before .before .p .given .1) (c .before .before .before .before .before .before .before .generate-core .ensures .few) in
+    let few = subst (λ (r : Placed). many r ≤ mostNotes) (c .before .before .before .p .given .1) (c .before .before .before .before .before .before .before .generate-core .ensures .few) in
     (omega (arith, few, c .before .before .before .before .before .before .before .generate-core .kept .1 .1 .0, s .pre .0 .room), omega (arith, few, s .pre .1))
 
 enum-known-x : tie.Need-enum-known-x
@@ -49,7 +50,7 @@ returns-2 c =
           ap (λ (m : Made). found m (c .before .before .before .before .before .before .p .given .0 .1 .0)) (made-is (s .args .g .stair) _ (c .before .before .split .result))
           ∙ ap (λ (q : Pattern SliderNote). found (made (s .args .g .stair) q) (c .before .before .before .before .before .before .p .given .0 .1 .0)) (o .is)
           ∙ sym (in-time _ _ (c .before .before .before .before .before .before .before .before .before .before .before .before .if1 .left) _ _ (sym (core .ensures .says) ∙ ap (placed ofWord (core .last .1 .1 .0)) (c .before .before .before .before .before .before .p .given .1)));
-      few = omega (arith, o .same, subst (λ (r : Placed). many r ≤ 2050) (c .before .before .before .before .before .before .p .given .1) (core .ensures .few));
+      few = omega (arith, o .same, subst (λ (r : Placed). many r ≤ mostNotes) (c .before .before .before .before .before .before .p .given .1) (core .ensures .few));
     }
 
 same-length-3 : tie.Need-same-length-3

@@ -9,6 +9,7 @@ use lib.IntN.{pos}
 use lib.Ieee.{Float, Format, binary32, binary64, ofInt, round, lt}
 use lib.Ieee.Bits.{ofBits-fits}
 use borrow.Author.Tests.{not-false}
+use Rattle.model.specs.Limits.{mostEntries, mostBreaks}
 use Rattle.bits.specs.Field.{bits}
 use Rattle.bits.specs.Laws.Fields.{bits-lt}
 use Rattle.floats.specs.Range.{within, float}
@@ -202,7 +203,7 @@ not-breaks-difficulty e = let z : _≡_ {A = ℕ} 0 1 = cc in omega arith
 pub not-breaks-effect : EffectPoints ≡ Breaks → ⊥
 not-breaks-effect e = let z : _≡_ {A = ℕ} 0 1 = cc in omega arith
 
-less : (n m k : ℕ) → n ≡ m → m ≤ k → n < suc k
+less : (n m k : ℕ) → n ≡ m → m ≤ k → n ≤ k
 less n m k e h = omega arith
 
 timing-up : (s : List ℕ) → Parts s → Rises (λ (p : TimingPoint). p .time) (timingPoints s (placesOf (countsOf s) .timing) (countsOf s .timing))
@@ -247,11 +248,11 @@ song-fits s h =
       difficulty-rises = difficulty-up s h;
       effect-rises = effect-up s h;
       starts = no-fall s (placesOf (countsOf s) .objects) zeroStart (countsOf s .objects) (h .objects);
-      few-breaks = less _ _ 255 (length-entries (readBreak s) (entryEnd Breaks) At.breaks (countsOf s .breaks)) (n .breaks-le);
-      few-timing = less _ _ 4095 (length-entries (readTimingPoint s) (entryEnd TimingPoints) (placesOf (countsOf s) .timing) (countsOf s .timing)) (n .timing-le);
-      few-difficulty = less _ _ 4095 (length-entries (readDifficultyPoint s) (entryEnd DifficultyPoints) (placesOf (countsOf s) .difficulty) (countsOf s .difficulty)) (n .difficulty-le);
-      few-effect = less _ _ 4095 (length-entries (readEffectPoint s) (entryEnd EffectPoints) (placesOf (countsOf s) .effect) (countsOf s .effect)) (n .effect-le);
-      few-objects = less _ _ 4095 (length-entries (readObject s) (objectEnd s) (placesOf (countsOf s) .objects) (countsOf s .objects)) (n .objects-le);
+      few-breaks = less _ _ mostBreaks (length-entries (readBreak s) (entryEnd Breaks) At.breaks (countsOf s .breaks)) (n .breaks-le);
+      few-timing = less _ _ mostEntries (length-entries (readTimingPoint s) (entryEnd TimingPoints) (placesOf (countsOf s) .timing) (countsOf s .timing)) (n .timing-le);
+      few-difficulty = less _ _ mostEntries (length-entries (readDifficultyPoint s) (entryEnd DifficultyPoints) (placesOf (countsOf s) .difficulty) (countsOf s .difficulty)) (n .difficulty-le);
+      few-effect = less _ _ mostEntries (length-entries (readEffectPoint s) (entryEnd EffectPoints) (placesOf (countsOf s) .effect) (countsOf s .effect)) (n .effect-le);
+      few-objects = less _ _ mostEntries (length-entries (readObject s) (objectEnd s) (placesOf (countsOf s) .objects) (countsOf s .objects)) (n .objects-le);
     }
 
 -- an accepted song is in its ranges and orders

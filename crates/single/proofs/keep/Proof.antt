@@ -9,6 +9,7 @@ use Rattle.single.specs.Ends.{full, kept}
 use borrow.Author.Needs.{needs}
 use Rattle.single.proofs.keep.Statement.{statement}
 use Rattle.single.proofs.keep.Tie as tie
+use Rattle.chart.specs.Layout.{noteSize}
 
 mul-if1 : tie.Need-mul-if1
 mul-if1 c = search needs
@@ -16,7 +17,7 @@ mul-if1 c = search needs
 returns : tie.Need-returns
 returns c =
     let a = c .before .before .before .args in
-    full (lt-ltb (length (a .notes .now)) (17 * a .p .count) (omega arith)) refl refl
+    full (lt-ltb (length (a .notes .now)) (noteSize * a .p .count) (omega arith)) refl refl
 
 put-notes-requires : tie.Need-put-notes-requires
 put-notes-requires c κs = search needs
@@ -34,7 +35,7 @@ returns-2 : tie.Need-returns-2
 returns-2 c =
     let k = c .before .before .before .before .before in
     let a = k .before .before .before .before .before .args in
-    kept (le-ltb (length (a .notes .now)) (17 * a .p .count) (omega arith)) (k .put-notes .ensures ∙ splice-start (a .notes .now) _) refl
+    kept (le-ltb (length (a .notes .now)) (noteSize * a .p .count) (omega arith)) (k .put-notes .ensures ∙ splice-start (a .notes .now) _) refl
 
 pub keep-spec : {M : Type 1} → statement M
 keep-spec =

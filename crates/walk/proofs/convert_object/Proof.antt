@@ -4,6 +4,7 @@ use mathlib.Core.Path.{sym, ap, _∙_, subst}
 use Prim.Native.Nat.{_≤_}
 use native.Mathlib.Omega.{arith}
 use lib.ListN.{length}
+use Rattle.model.specs.Limits.{mostNotes}
 use Rattle.pattern.specs.Answers.{objectEnd}
 use Rattle.object.specs.Notes.{noteAt}
 use Rattle.object.specs.Contract.{OnDeck}
@@ -52,7 +53,7 @@ returns c =
     let n = k .before .before .before .before .before .before .before .generate in
     let v = k .before .p .given in
     let words = n .last .1 .1 .1 .1 .0 in
-    let size : 2050 ≤ length words = omega (arith, s .pre .5) in
+    let size : mostNotes ≤ length words = omega (arith, s .pre .5) in
     finished (s .args .chart .now) (c .before .before .finish .last .0) words (s .args .g) (s .args .c) (s .args .w) (s .args .o) (s .args .d) (v .0 .1 .1 .0) (m .result)
     (v .0 .0) (v .0 .1 .0) (m .ensures) size (subst (OnDeck (s .args .g .columns)) (v .1) (deck k))
     (ap (objectEnd (noteAt (s .args .o)) words) (sym (v .1)) ∙ n .ensures .says) (c .before .before .finish .result) (c .before .before .finish .ensures)

@@ -6,6 +6,7 @@ use borrow.Author.Tests.{lt-ltb, le-ltb}
 use borrow.Author.Needs.{needs}
 use Rattle.walk.proofs.keep.Statement.{statement}
 use Rattle.walk.proofs.keep.Tie as tie
+use Rattle.chart.specs.Layout.{chartSize}
 
 cast-before : tie.Need-cast-before
 cast-before c = search needs
@@ -22,7 +23,7 @@ add-if1-2 c = search needs
 returns : tie.Need-returns
 returns c =
     let a = c .before .before .before .before .args in
-    lt-ltb (length (a .chart .now)) (8 + 17 * (a .w .notes + a .p .count)) (omega arith)
+    lt-ltb (length (a .chart .now)) (chartSize (a .w .notes + a .p .count)) (omega arith)
 
 mul-put-notes : tie.Need-mul-put-notes
 mul-put-notes c = search needs
@@ -46,7 +47,7 @@ returns-2 : tie.Need-returns-2
 returns-2 c =
     let k = c .before .before .before .before .before in
     let a = k .before .before .before .before .before .before .args in
-    (le-ltb (length (a .chart .now)) (8 + 17 * (a .w .notes + a .p .count)) (omega arith), k .put-notes .ensures, c .after-object .ensures .0, c .after-object .ensures .1)
+    (le-ltb (length (a .chart .now)) (chartSize (a .w .notes + a .p .count)) (omega arith), k .put-notes .ensures, c .after-object .ensures .0, c .after-object .ensures .1)
 
 pub keep-spec : {M : Type 1} → statement M
 keep-spec =
