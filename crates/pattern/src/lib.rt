@@ -290,7 +290,8 @@ pub fn column_search(
     Search::Refused(9, d)
 }
 
-// The column of a search. The tally has its draws where no search before made more.
+// The column of a search. The tally has its draws where no search before made more. A free column is tested here too, so that the compiler takes that
+// test into each caller and calls only for a search that goes on.
 pub fn find_available_column(
     d: Draws,
     next: Next,
@@ -303,6 +304,9 @@ pub fn find_available_column(
     requires { ⌜ (initial < columns) × (columns ≤ 9) × (lower < upper) × (upper ≤ 9) ⌝ }
     ensures { λ r. ⌜ number r ≡ on (findAvailableColumn next columns initial lower upper taken) d ⌝ }
 {
+    if is_free(taken, initial) {
+        return Number::Given(initial, d);
+    }
     match column_search(d, next, columns, initial, lower, upper, taken) {
         Search::Found(c, made, after) => Number::Given(c, after),
         Search::Refused(n, after) => Number::Refused(n, after),
