@@ -47,7 +47,7 @@ columnsRefusal od cs long objects =
 abbrev pub SettingIn : SettingRange → Float → Type 0
 SettingIn range x = T (fits binary32 x) × T (inRange (range .low) (range .high) x)
 
--- some song as announced has c columns: no key choice, od and cs in the ranges, and so many objects, `long` of them sliders or spinners
+-- some song as announced has c columns: no key choice, od and cs in the ranges, and `objects` objects, `long` of them sliders or spinners
 pub record Yields (od cs : SettingRange) (long objects c : ℕ) : Type 0 where
   pub song : Song
   pub noKeys : song .keys ≡ 0

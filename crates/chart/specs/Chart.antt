@@ -141,7 +141,7 @@ readingOf (some c) = accepted (c .columns) (length (c .notes)) (c .draws)
 unfoldable pub reading : List ℕ → Reading
 reading s = readingOf (decode s)
 
--- what each case of the code's answer stands for
+-- the meaning of each case of the code's answer
 abbrev pub meaning : Answer → Reading
 meaning (Chart columns notes draws) = accepted columns notes draws
 meaning Refused = refused 14

@@ -45,7 +45,7 @@ module _ (columns c : ℕ) (on : c < columns) (x : Float) (fx : T (fits binary64
 
 -- ---- in order
 
--- a note may stand first in a chart of so many columns
+-- a note may stand first in a chart of c columns
 abbrev pub Alone : ℕ → Note → Type 0
 Alone c n = okNote c 0 n ≡ true
 

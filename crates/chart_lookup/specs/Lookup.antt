@@ -24,7 +24,7 @@ pub data Outcome : Type 0 where
   nothing : Outcome
   found : ℕ → Outcome
 
--- what each case of the code's answer stands for
+-- the meaning of each case of the code's answer
 abbrev pub told : Listed → Outcome
 told (Places k) = found k
 told Nothing = nothing

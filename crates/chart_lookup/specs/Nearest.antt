@@ -49,7 +49,7 @@ soughtIn (some c) column t = seeking (c .columns) (c .notes) column t
 unfoldable pub sought : List ℕ → ℕ → Float → Outcome
 sought s column t = soughtIn (decode s) column t
 
--- what each case of the code's answer stands for
+-- the meaning of each case of the code's answer
 abbrev pub told : Sought → Outcome
 told (Place k) = found k
 told Nothing = nothing

@@ -73,7 +73,7 @@ fn write_covering(chart: &[u8], first: u32, end: u32, found: u32, at: f64, list:
     }
 }
 
-// The lookup in a chart of so many notes that was read. Only notes that start at or before the instant are looked at.
+// The lookup in a chart that was read. Only notes that start at or before the instant are looked at.
 pub fn list_covering(chart: &[u8], count: u32, at: f64, list: &mut [u32]) -> Listed
     requires { ⌜ (count ≡ length (notesIn (now chart))) × (finite at ≡ true) ⌝ }
     ensures { λ r. ⌜ (told r, now (list .exit)) ≡ given (places (wanted (Covering at)) 0 (notesIn (now (chart .entry)))) (now (list .entry)) ⌝ }

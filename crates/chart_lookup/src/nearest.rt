@@ -87,7 +87,7 @@ fn nearest_of(chart: &[u8], count: u32, column: u32, t: f64) -> Sought
     Sought::Place(next_of(chart, count, column, equal))
 }
 
-// The lookup in a chart of so many columns and notes that was read.
+// The lookup in a chart that was read.
 fn seek(chart: &[u8], columns: u32, count: u32, column: u32, t: f64) -> Sought
     requires { ⌜ count ≡ length (notesIn (now chart)) ⌝ }
     ensures { λ r. ⌜ told r ≡ seeking columns (notesIn (now (chart .entry))) column t ⌝ }

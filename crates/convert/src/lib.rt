@@ -15,7 +15,7 @@ use record::Summary;
 use walk::Song;
 use walk::WalkEnd;
 
-// How a job ends: with a chart of so many bytes and the most draws of one search, or with a refusal's number, the object's index and the draws so far.
+// How a job ends: with the chart's length in bytes and the most draws of one search, or with a refusal's number, the object's index and the draws so far.
 pub enum JobEnd {
     Chart(usize, u32),
     Refused(u8, u32, u32),

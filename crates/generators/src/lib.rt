@@ -13,7 +13,7 @@ pub mod circle;
 pub mod slider;
 pub mod spinner;
 
-// What a generator gives where the state is lent, and altered there: of the draws after it only the tally.
+// The result of a generator that alters a `&mut Random`: of the draws after it only the tally is left to give.
 pub enum LentEnd {
     Made(Pattern, Stair, Tally),
     Refused(u8, Tally),

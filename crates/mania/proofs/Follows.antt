@@ -47,7 +47,7 @@ without ns (found mss d) nss e h = (mss, ap (λ (x : Draws). found mss x) (ap (l
 without ns (refused x d) nss e h = let z : _≡_ {A = ℕ} 1 0 = ap kind h in absurd (omega arith)
 
 module _ (s : Song) (difficulty : Float) (columns room : ℕ) where
-  -- what `walkTo` comes to, and how many notes there are then
+  -- the end of `walkTo`, and how many notes there are then
   abbrev Comes : ℕ → Walk → List Object → Draws → List (List Note) → Draws → Type 0
   Comes k w os d nss e = (x : Walk) × (on (walkTo s difficulty columns k w os) d ≡ found x e) × (x .notes ≡ w .notes + length (inWalkOrder nss))
 

@@ -15,7 +15,7 @@ use Rattle.mania.specs.declared.Next.the-variants.{Draw, Step}
 use Rattle.mania.specs.Pattern.{free, anyFree}
 use Rattle.mania.specs.PatternGenerator.{Searched, undrawn, searchLimit, nextColumn, stepTo, drawTo, searchOn, columnSearch}
 
--- where a search ends that had made so many draws before, it tells those and the ones it made since
+-- a search that ends gives the draws made before and those made since
 abbrev Own : ℕ → Outcome (Unit {0}) Refusal Searched → Type 0
 Own made (ended s n) = s .draws ≡ made + n
 Own made (refused r n) = Unit {0}

@@ -77,7 +77,7 @@ own-fits v columns some deck mask last h = rw (le-leb 1 columns some, le-leb col
         none e b = let z : bit 0 (v .last) ≡ 1 = subst (λ (m : ℕ). bit m (v .last) ≡ 1) e b in omega (arith, empty-bit (v .last))
     go false z = ⊎-elim (λ k. absurd (eqb-false (v .mask) 0 z (k .0))) (λ (b : bit (v .mask) (v .last) ≡ 1). rw (lt-ltb (v .last) columns last, bit-taken (v .mask) (v .last) b)) h
 
--- ---- what an object leaves, of so many columns
+-- ---- what an object leaves
 
 record Leaves (columns : ℕ) (m : Made) : Type 0 where
   owned : Owned columns m

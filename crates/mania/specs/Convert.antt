@@ -141,7 +141,7 @@ positionAfter o (Slider repeats distance node) = o .position
 positionAfter o (Spinner duration) = record { x = single 256 1; y = single 192 1 }
 positionAfter o (Hold duration) = record { x = single 256 1; y = single 192 1 }
 
--- the walk after an object that left a mask, a last column and a stair, and made so many notes
+-- the walk after an object, by the mask, last column and stair that it left and the count of its notes
 unfoldable pub walkAfter : Facts → Object → Density → ℕ → ℕ → Stair → ℕ → Walk → Walk
 walkAfter f o d mask last stair count w =
     let span = spanIn f o (o .kind) in

@@ -55,7 +55,7 @@ walkTo s difficulty columns (suc k) w (o ∷ os) = do
 unfoldable pub reaches : Song → ℕ → ObjectRule Walk
 reaches s k = walkTo s (conversionDifficulty (s .settings) (s .breaks) (s .objects)) (columnsOf s) k beginning (s .objects)
 
--- From the state r, under the allowance a, `reaches s k` ends after n draws with so many notes.
+-- From the state r, under the allowance a, `reaches s k` ends after n draws with `notes` notes.
 pub record Follows (s : Song) (k a n : ℕ) (r : Random) (notes : ℕ) : Type 0 where
   pub to : Walk
   pub after : run (reaches s k) (values a r) ≡ ended to n

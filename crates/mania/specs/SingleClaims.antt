@@ -30,7 +30,7 @@ module _ (f : Facts) (v : PrevValues) (columns : ℕ) (o : Object) (r : Random) 
   unfoldable pub under : ℕ → Outcome (Unit {0}) Refusal Made
   under a = run (withRoom f v columns o (length buffer)) (values a r)
 
-  -- whose the draws are
+  -- how the draws divide among searches
   unfoldable pub ledgerUnder : ℕ → Ledger
   ledgerUnder a = ledger (withRoom f v columns o (length buffer)) (values a r)
 

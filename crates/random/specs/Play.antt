@@ -1,5 +1,5 @@
 -- What a rule comes to from a state of the generator with a number of draws left: each draw takes a step.
--- `Laws.Play.play-run` shows that this is what the rule comes to on the list of the values of that many steps. Assumes nothing.
+-- `Laws.Play.play-run` shows that this equals the rule run on the list of the values of the steps. Assumes nothing.
 use Prim.Native.Nat.{ℕ, zero, suc, max}
 use mathlib.Core.Bool.{Bool}
 use Rattle.rules.specs.Rule.{if_then_else_, Rule, give, refuse, draw, drawUntil}
@@ -13,7 +13,7 @@ pub data Answer (S A : Type 0) : Type 0 where
   found : A → Draws → Answer S A
   refused : S → Draws → Answer S A
 
--- from a state, with so many draws left, and so many made by the longest search
+-- a state, the draws left, and the draws of the longest search
 abbrev pub tallied : ℕ → ℕ → Random → Draws
 tallied left longest s = record { random = s; tally = record { left = left; longest = longest } }
 
@@ -23,7 +23,7 @@ searched n d = tallied (d .tally .left) (max (d .tally .longest) n) (d .random)
 
 -- what is said of a draw at p with no value left, and of a refusal by r
 module _ {P R S : Type 0} (out : P → S) (no : R → S) where
-  -- a search that may make so many more draws, and has made `made`; the longest search before it made g
+  -- a search that has made `made` draws and may make `more`; the longest search before it made g
   unfoldable pub playUntil : {A : Type 0} → P → R → (ℕ → Bool) → (ℕ → ℕ → ℕ → ℕ → Random → Answer S A) → ℕ → ℕ → ℕ → ℕ → Random → Answer S A
   playUntil p r test k zero made l g s = refused (no r) (tallied l (max g made) s)
   playUntil p r test k (suc more) made zero g s = refused (out p) (tallied zero (max g made) s)
@@ -48,7 +48,7 @@ module _ {P R S : Type 0} (out : P → S) (no : R → S) where
 abbrev pub on : {A : Type 0} → ObjectRule A → Draws → Answer ℕ A
 on m d = playOn (λ p. spentNumber) number m d
 
--- a search of an object's rule, where it may make so many more draws and has made `made`
+-- a search of an object's rule that has made `made` draws and may make `more`
 abbrev pub onUntil : {A : Type 0} → Refusal → (ℕ → Bool) → (ℕ → ℕ → ObjectRule A) → ℕ → ℕ → Draws → Answer ℕ A
 onUntil r test k more made d =
     playUntil (λ p. spentNumber) number (tt {0}) r test (λ v n. play (λ p. spentNumber) number (k v n)) more made (d .tally .left) (d .tally .longest) (d .random)

@@ -105,7 +105,7 @@ pub fn draw(d: Draws) -> Drawn
     Drawn::Value(s.value, Draws { random, tally })
 }
 
-// The draws after a search that made so many.
+// The draws after a search that made `made` of them: the longest search is raised.
 pub fn after_search(d: Draws, made: u32) -> Draws
     ensures { λ r. ⌜ r ≡ searched made d ⌝ }
 {

@@ -48,8 +48,8 @@ after (ended a n) = ended a (suc n)
 after (refused r n) = refused r (suc n)
 after (spent p n) = spent p (suc n)
 
--- A search that may take so many more values, and has taken `made`. Both branches are bound first, so that computing does not run the continuation at
--- every value left.
+-- A search that has taken `made` values and may take `more`. Both branches are bound first, so that computing does not run the continuation at every
+-- value left.
 unfoldable pub drawingUntil : {P R A : Type 0} → P → R → (ℕ → Bool) → (ℕ → ℕ → List ℕ → Outcome P R A) → ℕ → ℕ → List ℕ → Outcome P R A
 drawingUntil p r test k zero made vs = refused r 0
 drawingUntil p r test k (suc more) made [] = spent p 0

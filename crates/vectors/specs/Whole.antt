@@ -2,7 +2,7 @@
 use Prim.Native.Nat.{ℕ, _≤_}
 use Rattle.vectors.specs.declared.list.Entry.{Entry}
 
--- the parts of an entry lie within a list of so many bytes
+-- the parts of an entry lie within the list's bytes
 pub record Whole (entry : Entry) (size : ℕ) : Type 0 where
   pub input-part : entry .input ≤ entry .«input_end»
   pub input-within : entry .«input_end» ≤ size

@@ -91,7 +91,7 @@ module _ (lower upper taken : ℕ) where
   abbrev finds : ℕ → ℕ → ObjectRule Searched
   finds v n = give (record { column = between lower upper v; draws = n })
 
-  -- the search where it has made so many draws
+  -- the rest of a search that has made `made` draws
   abbrev pub drawOn : ℕ → Draws → Answer ℕ Searched
   drawOn made d = onUntil longSearch passes finds (searchLimit - made) made d
 

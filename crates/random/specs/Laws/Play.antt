@@ -41,7 +41,7 @@ module _ {P R S : Type 0} (out : P → S) (no : R → S) where
     draw-some zero g s h = absurd (h refl)
     draw-some (suc l) g s h = rw (one-less l)
 
-  -- ---- one draw of a search that may make so many more
+  -- ---- one draw of a search
 
   module _ {A : Type 0} (p : P) (r : R) (test : ℕ → Bool) (k : ℕ → ℕ → Rule P R A) where
     abbrev pub searching : ℕ → ℕ → Draws → Answer S A
