@@ -8,4 +8,6 @@ cargo build --release --offline --quiet --workspace
 cargo test --release --offline --quiet
 cargo run --release --offline --quiet -p library --bin library -- 20000 200 1
 cargo run --release --offline --quiet -p library --bin objects -- 50000 1
+cargo run --release --offline --quiet -p library --bin announced -- 20000 20000 1
+cargo run --release --offline --quiet -p library --bin lookups -- 20000 1
 echo "oracle: ok"
