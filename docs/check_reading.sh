@@ -1,6 +1,7 @@
 #!/usr/bin/env bash
 # Sees that every file that docs/READING.md names is there, and that each name after a file stands in it; and that docs/REFUSALS.md has a row
-# for each refusal of include/sumopine.h, in that order, and no other.
+# for each refusal of include/sumopine.h, in that order, and no other; and that the refusals of rules/specs/Numbers.antt and rules/src/numbers.rt have
+# the names and numbers of include/sumopine.h (`fieldNotWhole`, `FIELD_NOT_WHOLE` and `SUMOPINE_FIELD_NOT_WHOLE` are one name).
 set -euo pipefail
 cd "$(dirname "$0")/.."
 bad=0
@@ -27,7 +28,19 @@ while IFS= read -r word; do
         ;;
     esac
 done < <(grep '^|' docs/READING.md | sed 's/|/\n|\n/g' | awk '/^\|$/ { print; next } { n = split($0, p, "`"); for (i = 2; i <= n; i += 2) print p[i] }')
-numbers=$(sed -n 's/^ *SUMOPINE_[A-Z_]* = \([0-9]*\),\{0,1\}$/\1/p' include/sumopine.h)
+# each refusal as `NAME = number`
+header=$(sed -n 's/^ *SUMOPINE_\([A-Z_]* = [^,]*\),\{0,1\}$/\1/p' include/sumopine.h)
+specs=$(sed -n 's/^\([A-Za-z]* = .*\)$/\1/p' crates/rules/specs/Numbers.antt | sed 's/[A-Z]/_&/g' | tr '[:lower:]' '[:upper:]')
+code=$(sed -n 's/^pub const \([A-Z_]*\): u8\( = .*\);$/\1\2/p' crates/rules/src/numbers.rt)
+if ! diff <(echo "$header") <(echo "$specs"); then
+    echo "sumopine.h (<) and rules/specs/Numbers.antt (>) have other refusals"
+    bad=1
+fi
+if ! diff <(echo "$header") <(echo "$code"); then
+    echo "sumopine.h (<) and rules/src/numbers.rt (>) have other refusals"
+    bad=1
+fi
+numbers=$(sed 's/.* = //' <<< "$header")
 rows=$(sed -n 's/^| \([0-9]*\) |.*/\1/p' docs/REFUSALS.md)
 if [ -z "$numbers" ] || [ "$numbers" != "$rows" ]; then
     echo "REFUSALS.md has rows for" $rows "and sumopine.h refuses by" $numbers

@@ -7,6 +7,7 @@ use mathlib.Core.Option.{Option, none, some}
 use Prim.Native.Nat.{ℕ, zero, suc, _+_, _*_, _/_, _%_, _^_, _≤_, _<_}
 use lib.Dec.{leb, ltb, eqb}
 use lib.ListN.{length, getD, take, drop}
+use Rattle.rules.specs.Numbers as Numbers
 use Rattle.chart.specs.Layout.{headerSize, noteSize, chartSize}
 use Rattle.chart.specs.declared.Note.{Note}
 use Rattle.chart.specs.declared.Answer.{Answer}
@@ -135,7 +136,7 @@ pub data Reading : Type 0 where
   accepted : ℕ → ℕ → ℕ → Reading
 
 unfoldable pub readingOf : Option Score → Reading
-readingOf none = refused 14
+readingOf none = refused Numbers.brokenChart
 readingOf (some c) = accepted (c .columns) (length (c .notes)) (c .draws)
 
 unfoldable pub reading : List ℕ → Reading
@@ -144,7 +145,7 @@ reading s = readingOf (decode s)
 -- the meaning of each case of the code's answer
 abbrev pub meaning : Answer → Reading
 meaning (Chart columns notes draws) = accepted columns notes draws
-meaning Refused = refused 14
+meaning Refused = refused Numbers.brokenChart
 
 -- the note of index i, where the bytes go on to its end
 unfoldable pub noteIn : List ℕ → ℕ → Option Note

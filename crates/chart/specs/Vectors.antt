@@ -4,6 +4,7 @@ use mathlib.Core.Bool.{true, false}
 use mathlib.Core.List.{List, [], _∷_}
 use Prim.Native.Nat.{ℕ, _^_, _*_}
 use lib.Ieee.{ofBits, le, lt, eq}
+use Rattle.rules.specs.Numbers as Numbers
 use Rattle.floats.specs.Range.{inRange}
 use Rattle.floats.specs.Ticks.{ticks}
 use Rattle.chart.specs.declared.Note.{Note}
@@ -41,7 +42,7 @@ hold-read : reading bytes ≡ accepted 9 1 1
 unfolding reading readingOf decode scoreOf okChart okHead headTests every columnsOf countOf drawsOf notesOf noteOf okRows okRow okNote noteTests lasts isTime inRange le lt eq ticks ofBits num bytes
 hold-read = refl
 
-short : reading (0x19 ∷ 0 ∷ 0 ∷ 0 ∷ 0 ∷ 0 ∷ 0 ∷ []) ≡ refused 14
+short : reading (0x19 ∷ 0 ∷ 0 ∷ 0 ∷ 0 ∷ 0 ∷ 0 ∷ []) ≡ refused Numbers.brokenChart
 unfolding reading readingOf decode okChart okHead headTests every
 short = refl
 
@@ -49,7 +50,7 @@ short = refl
 past : List ℕ
 past = 0x19 ∷ 0 ∷ 0 ∷ 1 ∷ 0 ∷ 0 ∷ 0 ∷ 1 ∷ 0x18 ∷ 0x41 ∷ 0x7f ∷ 0xff ∷ 0xff ∷ 0xf0 ∷ 0 ∷ 0 ∷ 0 ∷ 0 ∷ 0 ∷ 0 ∷ 0 ∷ 0 ∷ 0 ∷ 0 ∷ 1 ∷ []
 
-past-bound : reading past ≡ refused 14
+past-bound : reading past ≡ refused Numbers.brokenChart
 unfolding reading readingOf decode okChart okHead headTests every columnsOf countOf noteOf okRows okRow okNote noteTests lasts isTime inRange le lt eq ticks ofBits num past
 past-bound = refl
 

@@ -5,6 +5,7 @@ use mathlib.Core.Bool.{true, false}
 use mathlib.Core.List.{List, [], _∷_}
 use Prim.Native.Nat.{ℕ}
 use lib.Ieee.{ofBits, le, lt, eq}
+use Rattle.rules.specs.Numbers as Numbers
 use Rattle.floats.specs.Ticks.{ticks}
 use Rattle.chart.specs.declared.Note.{Note}
 use Rattle.chart.specs.Tests.{every}
@@ -71,22 +72,22 @@ unfolding seeking nearest taken better placed away distance instant ticks ofBits
 no-note = refl
 
 -- the refusals: 7 bytes; an infinity, and 3 to 1; column 2 of 2; a list of two for three places
-broken : listing (0x19 ∷ 0 ∷ 0 ∷ 0 ∷ 0 ∷ 0 ∷ 0 ∷ []) (Covering (time one)) (7 ∷ []) ≡ (refused 14, 7 ∷ [])
+broken : listing (0x19 ∷ 0 ∷ 0 ∷ 0 ∷ 0 ∷ 0 ∷ 0 ∷ []) (Covering (time one)) (7 ∷ []) ≡ (refused Numbers.brokenChart, 7 ∷ [])
 unfolding listing looked decode okChart okHead headTests every
 broken = refl
 
-infinite : listed (Covering (time 0x7ff0_0000_0000_0000)) notes (7 ∷ []) ≡ (refused 17, 7 ∷ [])
+infinite : listed (Covering (time 0x7ff0_0000_0000_0000)) notes (7 ∷ []) ≡ (refused Numbers.times, 7 ∷ [])
 unfolding listed timesOk ofBits notes
 infinite = refl
 
-turned : listed (Starting (time three) (time one)) notes [] ≡ (refused 17, [])
+turned : listed (Starting (time three) (time one)) notes [] ≡ (refused Numbers.times, [])
 unfolding listed timesOk le lt eq ofBits notes
 turned = refl
 
-off-deck : seeking 2 notes 2 (time two) ≡ refused 18
+off-deck : seeking 2 notes 2 (time two) ≡ refused Numbers.columnOffDeck
 unfolding seeking ofBits notes
 off-deck = refl
 
-too-short : listed (Starting (time one) (time three)) notes (7 ∷ 7 ∷ []) ≡ (refused 19, 7 ∷ 7 ∷ [])
+too-short : listed (Starting (time one) (time three)) notes (7 ∷ 7 ∷ []) ≡ (refused Numbers.listTooShort, 7 ∷ 7 ∷ [])
 unfolding listed timesOk given counted places wanted filled le lt eq ofBits notes
 too-short = refl

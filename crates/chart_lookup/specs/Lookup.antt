@@ -8,6 +8,7 @@ use lib.Dec.{leb}
 use lib.ListN.{length, drop}
 use lib.Ieee.{lt, le}
 use lib.Ieee.Scale.{finite}
+use Rattle.rules.specs.Numbers as Numbers
 use Rattle.floats.specs.Ticks.{ticks}
 use Rattle.chart.specs.declared.Note.{Note}
 use Rattle.chart.specs.Time.{time}
@@ -60,13 +61,13 @@ counted (p ∷ ps) = found (length (p ∷ ps))
 
 -- the answer, and the list afterwards
 unfoldable pub given : List ℕ → List ℕ → Outcome × List ℕ
-given ps list = cond (leb (length ps) (length list)) (counted ps, filled ps list) (refused 19, list)
+given ps list = cond (leb (length ps) (length list)) (counted ps, filled ps list) (refused Numbers.listTooShort, list)
 
 unfoldable pub listed : Wanted → List Note → List ℕ → Outcome × List ℕ
-listed w ns list = cond (timesOk w) (given (places (wanted w) 0 ns) list) (refused 17, list)
+listed w ns list = cond (timesOk w) (given (places (wanted w) 0 ns) list) (refused Numbers.times, list)
 
 unfoldable pub looked : Option Score → Wanted → List ℕ → Outcome × List ℕ
-looked none w list = (refused 14, list)
+looked none w list = (refused Numbers.brokenChart, list)
 looked (some c) w list = listed w (c .notes) list
 
 unfoldable pub listing : List ℕ → Wanted → List ℕ → Outcome × List ℕ

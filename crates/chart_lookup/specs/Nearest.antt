@@ -8,6 +8,7 @@ use lib.Dec.{ltb, eqb}
 use lib.IntN.{ℤ}
 use lib.Ieee.{Float}
 use lib.Ieee.Scale.{finite}
+use Rattle.rules.specs.Numbers as Numbers
 use Rattle.floats.specs.Ticks.{ticks}
 use Rattle.chart.specs.declared.Note.{Note}
 use Rattle.chart.specs.Time.{time}
@@ -40,10 +41,10 @@ placed none = nothing
 placed (some b) = found (b .0)
 
 unfoldable pub seeking : ℕ → List Note → ℕ → Float → Outcome
-seeking columns ns column t = cond (finite t) (cond (ltb column columns) (placed (nearest column (instant t) none 0 ns)) (refused 18)) (refused 17)
+seeking columns ns column t = cond (finite t) (cond (ltb column columns) (placed (nearest column (instant t) none 0 ns)) (refused Numbers.columnOffDeck)) (refused Numbers.times)
 
 unfoldable pub soughtIn : Option Score → ℕ → Float → Outcome
-soughtIn none column t = refused 14
+soughtIn none column t = refused Numbers.brokenChart
 soughtIn (some c) column t = seeking (c .columns) (c .notes) column t
 
 unfoldable pub sought : List ℕ → ℕ → Float → Outcome

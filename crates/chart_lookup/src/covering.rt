@@ -4,6 +4,7 @@ use crate::starts::note_of;
 use crate::starts::starting_before;
 use exact_times::moments::covers;
 use exact_times::moments::first_after;
+use rules::numbers;
 ghost use mathlib.Core.Path.{_≡_};
 ghost use mathlib.Core.Bool.{true};
 ghost use Prim.Native.Nat.{_≤_, _<_};
@@ -85,7 +86,7 @@ pub fn list_covering(chart: &[u8], count: u32, at: f64, list: &mut [u32]) -> Lis
         return Listed::Nothing;
     }
     if found as usize > list.len() {
-        return Listed::Refused(19);
+        return Listed::Refused(numbers::LIST_TOO_SHORT);
     }
     write_covering(chart, first, end, found, at, list);
     Listed::Places(found)

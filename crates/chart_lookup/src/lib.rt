@@ -9,6 +9,7 @@ use crate::starting::list_starting;
 use chart::Answer;
 use chart_reader::read;
 use floats::is_finite;
+use rules::numbers;
 ghost use mathlib.Core.Path.{_≡_};
 ghost use lib.ListN.{length};
 ghost use Rattle.chart_lookup.specs.Lookup.{timesOk, notesIn, listed, listing, told};
@@ -50,7 +51,7 @@ fn list_read(chart: &[u8], count: u32, w: Wanted, list: &mut [u32]) -> Listed
     ensures { λ r. ⌜ (told r, now (list .exit)) ≡ listed w (notesIn (now (chart .entry))) (now (list .entry)) ⌝ }
 {
     if !times_ok(w) {
-        return Listed::Refused(17);
+        return Listed::Refused(numbers::TIMES);
     }
     match w {
         Wanted::Starting { from, to } => list_starting(chart, count, from, to, list),
@@ -68,6 +69,6 @@ pub fn list_notes(chart: &[u8], w: Wanted, list: &mut [u32]) -> Listed
             notes,
             draws: _,
         } => list_read(chart, notes, w, list),
-        Answer::Refused => Listed::Refused(14),
+        Answer::Refused => Listed::Refused(numbers::BROKEN_CHART),
     }
 }

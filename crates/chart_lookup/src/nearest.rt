@@ -6,6 +6,7 @@ use chart_reader::read;
 use exact_times::moments::first_at;
 use exact_times::moments::nearer;
 use floats::is_finite;
+use rules::numbers;
 ghost use mathlib.Core.Path.{_≡_};
 ghost use mathlib.Core.Bool.{true, _&&_};
 ghost use mathlib.Core.Option.{none};
@@ -93,10 +94,10 @@ fn seek(chart: &[u8], columns: u32, count: u32, column: u32, t: f64) -> Sought
     ensures { λ r. ⌜ told r ≡ seeking columns (notesIn (now (chart .entry))) column t ⌝ }
 {
     if !is_finite(t) {
-        return Sought::Refused(17);
+        return Sought::Refused(numbers::TIMES);
     }
     if column >= columns {
-        return Sought::Refused(18);
+        return Sought::Refused(numbers::COLUMN_OFF_DECK);
     }
     nearest_of(chart, count, column, t)
 }
@@ -110,6 +111,6 @@ pub fn nearest_note(chart: &[u8], column: u32, t: f64) -> Sought
             notes,
             draws: _,
         } => seek(chart, columns, notes, column, t),
-        Answer::Refused => Sought::Refused(14),
+        Answer::Refused => Sought::Refused(numbers::BROKEN_CHART),
     }
 }

@@ -3,6 +3,7 @@ use crate::Listed;
 use crate::starts::starting_before;
 use exact_times::moments::first_after;
 use exact_times::moments::first_at;
+use rules::numbers;
 ghost use mathlib.Core.Path.{_≡_};
 ghost use mathlib.Core.Bool.{true};
 ghost use Prim.Native.Nat.{_+_, _^_, _≤_, _<_};
@@ -36,7 +37,7 @@ pub fn list_starting(chart: &[u8], count: u32, from: f64, to: f64, list: &mut [u
     }
     let found = end - first;
     if found as usize > list.len() {
-        return Listed::Refused(19);
+        return Listed::Refused(numbers::LIST_TOO_SHORT);
     }
     write_run(first, found, list);
     Listed::Places(found)

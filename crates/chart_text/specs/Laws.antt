@@ -9,6 +9,7 @@ use native.Mathlib.Omega.{arith}
 use lib.ListN.{length, drop}
 use lib.Seq.{drop-drop}
 use borrow.Author.Tests.{eqb-true}
+use Rattle.rules.specs.Numbers as Numbers
 use Rattle.chart.specs.Layout.{chartSize, noteSize}
 use Rattle.chart.specs.declared.Note.{Note}
 use Rattle.chart.specs.Tests.{passes, both, either-way}
@@ -34,7 +35,7 @@ module _ (s : List ℕ) where
   unfolding reading readingOf decode scoreOf
   reading-accepted e = rw (e, length-notesOf (countOf s) (drop 8 s))
 
-  reading-refused : okChart s ≡ false → reading s ≡ refused 14
+  reading-refused : okChart s ≡ false → reading s ≡ refused Numbers.brokenChart
   unfolding reading readingOf decode
   reading-refused e = rw e
 

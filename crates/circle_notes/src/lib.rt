@@ -20,6 +20,7 @@ use pattern::Pattern;
 use pattern::Placed;
 use random::Drawn;
 use random::Draws;
+use rules::numbers;
 
 // A note more, at column c.
 fn add_note(d: Draws, g: HitObjectPatternGenerator, c: u8, p: Pattern, words: &mut [u64]) -> Placed
@@ -30,7 +31,7 @@ fn add_note(d: Draws, g: HitObjectPatternGenerator, c: u8, p: Pattern, words: &m
     let count = p.count;
     let mask = p.mask;
     if columns <= c {
-        return Placed::Refused(10, d);
+        return Placed::Refused(numbers::OFF_DECK, d);
     }
     words[count] = c as u64;
     let with = pattern::with_column(mask, c);
@@ -378,7 +379,7 @@ fn mirror_notes(
     let p2 = floats::clamp(0.0, 1.0, m.p2);
     let p3 = floats::clamp(0.0, 1.0, m.p3);
     let Drawn::Value(v, next) = random::draw(d) else {
-        return Placed::Refused(12, d);
+        return Placed::Refused(numbers::NO_DRAW_LEFT, d);
     };
     let val = random::next_double(v);
     match pattern::get_random_note_count(next, p2, p3, 0.0, 0.0, 0.0) {

@@ -4,6 +4,7 @@ use Prim.Native.Nat.{ℕ, _+_, _≤_, _<_}
 use mathlib.Core.List.{List}
 use lib.ListN.{length, replicate}
 use Rattle.mania.specs.Demand.{Each, Lanes, OnDeck}
+use Rattle.rules.specs.Numbers as Numbers
 use Rattle.rules.specs.Ledger.{sum, largest}
 use Rattle.job.specs.Job.{columns, draws, ledger, notes, job}
 use Rattle.job.specs.Refusals.{Condition}
@@ -17,7 +18,7 @@ Answers bytes buffer allowance r chart = jobEnd chart r ≡ job bytes buffer all
 
 -- an end by 12, an end other than by 12
 abbrev pub Spent : JobEnd → Type 0
-Spent r = (i : ℕ) × (n : ℕ) × (r ≡ J.Refused 12 i n)
+Spent r = (i : ℕ) × (n : ℕ) × (r ≡ J.Refused Numbers.noDrawLeft i n)
 
 abbrev pub Other : JobEnd → Type 0
 Other r = Spent r → ⊥
@@ -27,9 +28,9 @@ pub record Demand (bytes buffer : List ℕ) : Type 0 where
   -- a number is given only under its condition, and the buffer is then zero
   pub condition : (a r i n : ℕ) (x : List ℕ) → Answers bytes buffer a (J.Refused r i n) x → Condition bytes buffer a r i n × (x ≡ replicate (length buffer) 0)
   -- 9 and 10 are never given
-  pub never : (a r i n : ℕ) (x : List ℕ) → Answers bytes buffer a (J.Refused r i n) x → (r ≡ 9 → ⊥) × (r ≡ 10 → ⊥)
+  pub never : (a r i n : ℕ) (x : List ℕ) → Answers bytes buffer a (J.Refused r i n) x → (r ≡ Numbers.noColumn → ⊥) × (r ≡ Numbers.offDeck → ⊥)
   -- 12 tells that the whole allowance was used
-  pub whole : (a i n : ℕ) (x : List ℕ) → Answers bytes buffer a (J.Refused 12 i n) x → n ≡ a
+  pub whole : (a i n : ℕ) (x : List ℕ) → Answers bytes buffer a (J.Refused Numbers.noDrawLeft i n) x → n ≡ a
   -- after an end other than by 12, a call ends by 12 below the draws made
   pub below : (a b : ℕ) (r s : JobEnd) (x y : List ℕ) → Answers bytes buffer a r x → Answers bytes buffer b s y → Other r → b < draws bytes buffer a → Spent s
   -- and from them on it has the same answer and leaves the same bytes

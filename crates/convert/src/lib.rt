@@ -12,6 +12,7 @@ use random::Draws;
 use random::Tally;
 use record::Checked;
 use record::Summary;
+use rules::numbers;
 use walk::Song;
 use walk::WalkEnd;
 
@@ -95,7 +96,7 @@ fn convert_song(bytes: &[u8], m: Summary, chart: &mut [u8], allowance: u32) -> J
     ensures { λ r. ⌜ jobEnd (now (chart .exit)) r ≡ job (now (bytes .entry)) (now (chart .entry)) allowance ⌝ }
 {
     if chart.len() < 8 {
-        return refused(chart, 11, 0, 0);
+        return refused(chart, numbers::CHART_TOO_SHORT, 0, 0);
     }
     let g = song_of(bytes, m);
     let settings = m.settings;

@@ -17,6 +17,7 @@ use pattern::Number;
 use pattern::ObjectEnd;
 use pattern::Pattern;
 use random::Draws;
+use rules::numbers;
 
 // How long the note lasts.
 fn lasting(o: Object, duration: f64) -> f64
@@ -120,7 +121,7 @@ pub fn generate_by_value(
     match note_column(d, v, columns, o, lasts) {
         Number::Given(c, next) => {
             if columns <= c {
-                return ObjectEnd::Refused(10, next);
+                return ObjectEnd::Refused(numbers::OFF_DECK, next);
             }
             words[0] = c as u64;
             ObjectEnd::Made(

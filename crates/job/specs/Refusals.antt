@@ -4,6 +4,7 @@ use mathlib.Core.Logic.{_⊎_}
 use Prim.Native.Nat.{ℕ, _≤_, _<_}
 use mathlib.Core.List.{List}
 use lib.ListN.{length, replicate}
+use Rattle.rules.specs.Numbers as Numbers
 use Rattle.rules.specs.Rule.{refused, spent}
 use Rattle.rules.specs.Refusal.{longSearch}
 use Rattle.rules.specs.Limited.{lastOr}
@@ -19,23 +20,23 @@ use Rattle.job.specs.Job.{job, ledger}
 -- Of the record's bytes with a buffer lent under the allowance a: the condition of a refusal by r at object i after n draws.
 pub record Condition (bytes buffer : List ℕ) (a r i n : ℕ) : Type 0 where
   -- the numbers
-  pub from : 1 ≤ r
-  pub to : (r ≤ 12) ⊎ (r ≡ 16)
+  pub from : Numbers.fieldNotWhole ≤ r
+  pub to : (r ≤ Numbers.noDrawLeft) ⊎ (r ≡ Numbers.longSearch)
   -- 1 to 7: the first condition of the record, in record order, that applies; before the walk, at object 0 and without a draw
-  pub unread : r ≤ 7 → (recordRefusal bytes ≡ r) × (i ≡ 0) × (n ≡ 0)
+  pub unread : r ≤ Numbers.filling → (recordRefusal bytes ≡ r) × (i ≡ 0) × (n ≡ 0)
   -- 8 to 12, and 16: no condition of the record applies
-  pub whole : 8 ≤ r → recordRefusal bytes ≡ 0
+  pub whole : Numbers.sliderEnd ≤ r → recordRefusal bytes ≡ 0
   -- 8: the objects before made their notes, after n draws, and the object is a slider that ends above 33,554,431
-  pub late : r ≡ 8 → (s : Song) × (parse bytes ≡ accepted s) × TooLate s (length buffer) a i n
+  pub late : r ≡ Numbers.sliderEnd → (s : Song) × (parse bytes ≡ accepted s) × TooLate s (length buffer) a i n
   -- never 9 or 10: see NeverBlocked.antt
-  pub not-9 : r ≡ 9 → ⊥
-  pub not-10 : r ≡ 10 → ⊥
+  pub not-9 : r ≡ Numbers.noColumn → ⊥
+  pub not-10 : r ≡ Numbers.offDeck → ⊥
   -- 11: the buffer is under 8 bytes, or too short for the notes of the objects so far
-  pub short : r ≡ 11 → (s : Song) × (parse bytes ≡ accepted s) × ((length buffer < 8) ⊎ TooLong s (length buffer) a i n)
+  pub short : r ≡ Numbers.chartTooShort → (s : Song) × (parse bytes ≡ accepted s) × ((length buffer < 8) ⊎ TooLong s (length buffer) a i n)
   -- 12: a draw was needed and none was left; the whole allowance was drawn
-  pub drawn : r ≡ 12 → (n ≡ a) × ((s : Song) × (parse bytes ≡ accepted s) × (under s buffer a ≡ spent i a))
+  pub drawn : r ≡ Numbers.noDrawLeft → (n ≡ a) × ((s : Song) × (parse bytes ≡ accepted s) × (under s buffer a ≡ spent i a))
   -- 16: one search, the last, made as many draws as it may, and needed one more
-  pub long : r ≡ 16 → (s : Song) × (parse bytes ≡ accepted s) × (under s buffer a ≡ refused (at i longSearch) n) × (lastOr 0 (ledger bytes buffer a .searches) ≡ searchLimit)
+  pub long : r ≡ Numbers.longSearch → (s : Song) × (parse bytes ≡ accepted s) × (under s buffer a ≡ refused (at i longSearch) n) × (lastOr 0 (ledger bytes buffer a .searches) ≡ searchLimit)
 
 -- Of every record's bytes and buffer.
 pub record Refusals (bytes buffer : List ℕ) : Type 0 where

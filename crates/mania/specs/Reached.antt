@@ -7,6 +7,7 @@ use mathlib.Core.List.{List, [], _∷_}
 use lib.Count.{ones}
 use lib.Ieee.{Float}
 use lib.ListN.{length, take}
+use Rattle.rules.specs.Numbers as Numbers
 use Rattle.rules.specs.Rule.{give, _>>=_, ended, refused, run}
 use Rattle.rules.specs.Refusal.{noColumn, offDeck, ObjectRule}
 use Rattle.random.specs.Generator.{values}
@@ -84,4 +85,4 @@ pub record Reasons : Type 0 where
   pub others : (f : Facts) (v : PrevValues) (columns : ℕ) (o : Object) → (columns ≡ 8 → ⊥) → patternFits v columns ≡ true → Valid f v columns o
   -- So if the single-object entry refuses by 9 or 10, no song reaches the previous pattern that it was given.
   pub lent : (f : Facts) (v : PrevValues) (columns : ℕ) (o : Object) (r s : Random) (a k : ℕ) (buffer : List ℕ)
-      → singleObject f v columns o r a buffer .answer ≡ refusal k s → (k ≡ 9) ⊎ (k ≡ 10) → Reached columns v → ⊥
+      → singleObject f v columns o r a buffer .answer ≡ refusal k s → (k ≡ Numbers.noColumn) ⊎ (k ≡ Numbers.offDeck) → Reached columns v → ⊥

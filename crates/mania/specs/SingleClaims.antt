@@ -5,6 +5,7 @@ use Prim.Native.Nat.{ℕ, _*_, _^_, _≤_, _<_}
 use mathlib.Core.List.{List}
 use lib.Dec.{eqb}
 use lib.ListN.{length}
+use Rattle.rules.specs.Numbers as Numbers
 use Rattle.rules.specs.Rule.{Outcome, ended, refused, spent, run, taken, if_then_else_}
 use Rattle.rules.specs.Ledger.{Ledger, ledger}
 use Rattle.rules.specs.Limited.{lastOr}
@@ -71,20 +72,20 @@ module _ (f : Facts) (v : PrevValues) (columns : ℕ) (o : Object) (r : Random) 
     pub unwritten : entry a .notes ≡ buffer
     -- 13, 4, 5 and 6: the first check that fails; else it is 8 to 12, or 16
     pub checked : (entryRefusal f v columns o ≡ 0 → ⊥) → k ≡ entryRefusal f v columns o
-    pub from : entryRefusal f v columns o ≡ 0 → 8 ≤ k
-    pub to : entryRefusal f v columns o ≡ 0 → (k ≤ 12) ⊎ (k ≡ 16)
+    pub from : entryRefusal f v columns o ≡ 0 → Numbers.sliderEnd ≤ k
+    pub to : entryRefusal f v columns o ≡ 0 → (k ≤ Numbers.noDrawLeft) ⊎ (k ≡ Numbers.longSearch)
     -- 8: the object is a slider that ends above 33,554,431
-    pub late : entryRefusal f v columns o ≡ 0 → k ≡ 8 → Late f o (o .kind)
+    pub late : entryRefusal f v columns o ≡ 0 → k ≡ Numbers.sliderEnd → Late f o (o .kind)
     -- 9: no circle, and of 8 columns the previous pattern has 1 to 7 and not 0
-    pub blocked : entryRefusal f v columns o ≡ 0 → k ≡ 9 → Blocked v columns (o .kind)
+    pub blocked : entryRefusal f v columns o ≡ 0 → k ≡ Numbers.noColumn → Blocked v columns (o .kind)
     -- 10: a circle in a reverse stair of 8 columns from column 0
-    pub below : entryRefusal f v columns o ≡ 0 → k ≡ 10 → Below f v columns o (o .kind)
+    pub below : entryRefusal f v columns o ≡ 0 → k ≡ Numbers.offDeck → Below f v columns o (o .kind)
     -- 11: the object's rule makes notes, and they are longer than the buffer
-    pub short : entryRefusal f v columns o ≡ 0 → k ≡ 11 → (m : Made) × (n : ℕ) × (run (object f v columns o) (values a r) ≡ ended m n) × (length buffer < noteSize * length (m .notes))
+    pub short : entryRefusal f v columns o ≡ 0 → k ≡ Numbers.chartTooShort → (m : Made) × (n : ℕ) × (run (object f v columns o) (values a r) ≡ ended m n) × (length buffer < noteSize * length (m .notes))
     -- 12: a draw was needed and none was left; the whole allowance was drawn
-    pub drawn : entryRefusal f v columns o ≡ 0 → k ≡ 12 → under a ≡ spent tt a
+    pub drawn : entryRefusal f v columns o ≡ 0 → k ≡ Numbers.noDrawLeft → under a ≡ spent tt a
     -- 16: one search, the last, made as many draws as it may, and needed one more
-    pub long : entryRefusal f v columns o ≡ 0 → k ≡ 16 → (n : ℕ) × (under a ≡ refused longSearch n) × (lastOr 0 (ledgerUnder a .searches) ≡ searchLimit)
+    pub long : entryRefusal f v columns o ≡ 0 → k ≡ Numbers.longSearch → (n : ℕ) × (under a ≡ refused longSearch n) × (lastOr 0 (ledgerUnder a .searches) ≡ searchLimit)
 
   -- Of one object with all that is lent, under every allowance.
   pub record Claims : Type 0 where

@@ -21,6 +21,7 @@ use pattern::ObjectEnd;
 use pattern::Pattern;
 use pattern::Placed;
 use random::Draws;
+use rules::numbers;
 use slider_times::Chance;
 
 // ---- the branches in their order
@@ -152,7 +153,7 @@ pub fn generate_by_value(
     let end = g.end;
     let stair = g.stair;
     if LATEST_END < end {
-        return ObjectEnd::Refused(8, d);
+        return ObjectEnd::Refused(numbers::SLIDER_END, d);
     }
     match generate_core(d, g, spare) {
         Placed::Notes(p, next) => {

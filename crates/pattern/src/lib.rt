@@ -14,6 +14,7 @@ use mania::Next;
 use mania::Stair;
 use random::Drawn;
 use random::Draws;
+use rules::numbers;
 
 // What a rule that ends in a number gives: that number, or the number of a refusal, and the draws after it.
 pub enum Number {
@@ -160,7 +161,7 @@ pub fn get_random_column(d: Draws, lower: u8, upper: u8) -> Number
     ensures { λ r. ⌜ number r ≡ on (getRandomColumn lower upper) d ⌝ }
 {
     let Drawn::Value(v, next) = random::draw(d) else {
-        return Number::Refused(12, d);
+        return Number::Refused(numbers::NO_DRAW_LEFT, d);
     };
     let c = random::next_int_range(v, lower, upper);
     Number::Given(c, next)
@@ -192,7 +193,7 @@ pub fn get_random_note_count(d: Draws, p2: f64, p3: f64, p4: f64, p5: f64, p6: f
     ensures { λ r. ⌜ number r ≡ on (getRandomNoteCount p2 p3 p4 p5 p6) d ⌝ }
 {
     let Drawn::Value(v, next) = random::draw(d) else {
-        return Number::Refused(12, d);
+        return Number::Refused(numbers::NO_DRAW_LEFT, d);
     };
     let val = random::next_double(v);
     let n = note_count(p2, p3, p4, p5, p6, val);
@@ -230,7 +231,7 @@ fn step_to(d: Draws, columns: u8, taken: u16, initial: u8) -> Search
         }
         left = left - 1;
     }
-    Search::Refused(9, d)
+    Search::Refused(numbers::NO_COLUMN, d)
 }
 
 // Draws from lower up to, and without, upper until a free column comes, and counts its draws: where it needs one beyond the limit, 16.
@@ -243,7 +244,7 @@ fn draw_to(d: Draws, lower: u8, upper: u8, taken: u16) -> Search
     while made < SEARCH_LIMIT {
         let Drawn::Value(v, next) = random::draw(rest) else {
             let after = random::after_search(rest, made);
-            return Search::Refused(12, after);
+            return Search::Refused(numbers::NO_DRAW_LEFT, after);
         };
         made = made + 1;
         rest = next;
@@ -254,7 +255,7 @@ fn draw_to(d: Draws, lower: u8, upper: u8, taken: u16) -> Search
         }
     }
     let after = random::after_search(rest, made);
-    Search::Refused(16, after)
+    Search::Refused(numbers::LONG_SEARCH, after)
 }
 
 // How a search goes on from a column that is taken.
@@ -287,7 +288,7 @@ pub fn column_search(
     if any_free(taken, lower, upper) {
         return search_on(d, next, columns, initial, lower, upper, taken);
     }
-    Search::Refused(9, d)
+    Search::Refused(numbers::NO_COLUMN, d)
 }
 
 // The column of a search. The tally has its draws where no search before made more. A free column is tested here too, so that the compiler takes that

@@ -1,6 +1,7 @@
 -- The refusals that the rules of an object give, and their numbers in document 01's table. 12 is not among them: it stands for a rule
 -- that was spent, so it comes from a draw alone. Assumes nothing.
 use Prim.Native.Nat.{ℕ}
+use Rattle.rules.specs.Numbers as Numbers
 use Rattle.rules.specs.Rule.{Rule}
 
 pub data Refusal : Type 0 where
@@ -16,15 +17,15 @@ pub data Refusal : Type 0 where
   longSearch : Refusal
 
 abbrev pub number : Refusal → ℕ
-number lateEnd = 8
-number noColumn = 9
-number offDeck = 10
-number tooShort = 11
-number longSearch = 16
+number lateEnd = Numbers.sliderEnd
+number noColumn = Numbers.noColumn
+number offDeck = Numbers.offDeck
+number tooShort = Numbers.chartTooShort
+number longSearch = Numbers.longSearch
 
 -- a draw is needed and none is left
 abbrev pub spentNumber : ℕ
-spentNumber = 12
+spentNumber = Numbers.noDrawLeft
 
 -- a rule of one object: its draws need no place
 abbrev pub ObjectRule : Type 0 → Type 0

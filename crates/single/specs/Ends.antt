@@ -5,6 +5,7 @@ use mathlib.Core.Bool.{true, false}
 use mathlib.Core.List.{List, map}
 use lib.Dec.{ltb}
 use lib.ListN.{length, take}
+use Rattle.rules.specs.Numbers as Numbers
 use Rattle.random.specs.declared.Random.{Random}
 use Rattle.random.specs.declared.Draws.{Draws}
 use Rattle.model.specs.declared.Object.{Object}
@@ -23,6 +24,6 @@ singleEnd notes (E.Refused n random) = record { answer = refusal n random; notes
 
 -- the notes are written from the buffer's start, or it is too short for them and stays as it was
 pub data Keeps (entry exit words : List ℕ) (o : Object) (p : Pattern) (stair : Stair) (lent : Random) (allowance : ℕ) (e : Draws) (r : SingleEnd) : Type 0 where
-  full : ltb (length entry) (noteSize * p .count) ≡ true → exit ≡ entry → r ≡ E.Refused 11 lent → Keeps entry exit words o p stair lent allowance e r
+  full : ltb (length entry) (noteSize * p .count) ≡ true → exit ≡ entry → r ≡ E.Refused Numbers.chartTooShort lent → Keeps entry exit words o p stair lent allowance e r
   kept : ltb (length entry) (noteSize * p .count) ≡ false → exit ≡ written (body (map (noteAt o) (take (p .count) words))) entry
       → r ≡ E.Made (p .count) (p .mask) (p .last) stair (e .random) (allowance - e .tally .left) → Keeps entry exit words o p stair lent allowance e r

@@ -16,6 +16,7 @@ use pattern::Pattern;
 use random::Draws;
 use random::Random;
 use random::Tally;
+use rules::numbers;
 
 // How the entry ends: the number of notes, the new mask, last column and stair, the state and the draws; or a refusal's number and the state that was lent.
 pub enum SingleEnd {
@@ -39,7 +40,7 @@ fn keep(
 {
     let count = p.count;
     if notes.len() < NOTE_SIZE * count {
-        return SingleEnd::Refused(11, lent);
+        return SingleEnd::Refused(numbers::CHART_TOO_SHORT, lent);
     }
     notes::put_notes(o, words, count, notes, 0);
     let random = e.random;

@@ -24,6 +24,7 @@ use pattern::Pattern;
 use pattern::Placed;
 use random::Drawn;
 use random::Draws;
+use rules::numbers;
 use slider_notes::Reached;
 use slider_notes::add_besides;
 use slider_notes::add_holds;
@@ -145,7 +146,7 @@ pub fn generate_stair(d: Draws, g: PathObjectPatternGenerator, words: &mut [u64]
         count: 0,
     };
     let Drawn::Value(v, next) = random::draw(d) else {
-        return Placed::Refused(12, d);
+        return Placed::Refused(numbers::NO_DRAW_LEFT, d);
     };
     let chance = random::next_double(v);
     let c = pattern::get_column(g.x, g.columns);
@@ -167,7 +168,7 @@ pub fn generate_random_multiple_notes(
         count: 0,
     };
     let Drawn::Value(v, next) = random::draw(d) else {
-        return Placed::Refused(12, d);
+        return Placed::Refused(numbers::NO_DRAW_LEFT, d);
     };
     let legacy = slider_notes::legacy(g.columns);
     let interval = random::next_int_range(v, 1, g.columns - legacy);

@@ -7,6 +7,7 @@ pub mod ranges;
 use chart::Answer;
 use chart::Found;
 use convert::JobEnd;
+use rules::numbers;
 ghost use mathlib.Core.Path.{_≡_};
 ghost use mathlib.Core.Bool.{cond};
 ghost use Prim.Native.Nat.{_≤_};
@@ -88,7 +89,7 @@ pub extern "C" fn sumopine_read_chart(
             *columns = 0;
             *notes = 0;
             *draws = 0;
-            14
+            numbers::BROKEN_CHART as u32
         }
     }
 }

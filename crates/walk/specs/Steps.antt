@@ -6,6 +6,7 @@ use mathlib.Core.List.{List, map}
 use lib.Dec.{ltb}
 use lib.Ieee.{Float}
 use lib.ListN.{length, take}
+use Rattle.rules.specs.Numbers as Numbers
 use Rattle.model.specs.Limits.{mostNotes, mostEntries}
 use Rattle.random.specs.Play.{Answer, found, refused, on}
 use Rattle.random.specs.declared.Draws.{Draws}
@@ -106,7 +107,7 @@ Keeps entry exit words o m p stair w r = KeepsBy entry exit words o m p stair w 
 -- what an object made is kept, or it is refused by 11
 abbrev pub Finishes : (entry exit words : List ℕ) → Object → Met → Pattern → Stair → Walk → Draws → Step → Type 0
 Finishes entry exit words o m p stair w d r =
-    KeepsBy entry exit words o m p stair w (not (r .refused)) (r .walk) × (r .number ≡ 11) × (r .draws ≡ d)
+    KeepsBy entry exit words o m p stair w (not (r .refused)) (r .walk) × (r .number ≡ Numbers.chartTooShort) × (r .draws ≡ d)
 
 -- what the walk keeps is for the columns: a previous pattern on the deck
 pub record Sound (columns : ℕ) (w : Walk) : Type 0 where
@@ -138,7 +139,7 @@ pub record Next (entry exit : List ℕ) (g : Song) (c : InForce) (w : Walk) (o :
 -- its rule is refused, or its notes are too long for the buffer
 pub data Stops (entry : List ℕ) (g : Song) (c : InForce) (w : Walk) (o : Object) (d : Draws) (n : ℕ) (e : Draws) : Type 0 where
   refuses : objectRule g c w o d ≡ refused n e → Stops entry g c w o d n e
-  full : (made : Made) → objectRule g c w o d ≡ found made e → tooLong entry w (length (made .notes)) ≡ true → n ≡ 11 → Stops entry g c w o d n e
+  full : (made : Made) → objectRule g c w o d ≡ found made e → tooLong entry w (length (made .notes)) ≡ true → n ≡ Numbers.chartTooShort → Stops entry g c w o d n e
 
 -- one object of the walk
 abbrev pub StepsBy : (entry exit : List ℕ) → Song → InForce → Walk → Object → Draws → Bool → Step → Type 0

@@ -41,6 +41,7 @@ use random::Draws;
 use record::header::Counts;
 use record::header::Places;
 use record_object::read_object;
+use rules::numbers;
 
 // What the walk keeps between objects; `notes` counts the notes so far.
 pub struct Walk {
@@ -320,7 +321,7 @@ fn finish(
     let refused = !kept.fits;
     Step {
         refused,
-        number: 11,
+        number: numbers::CHART_TOO_SHORT,
         walk,
         draws: d,
     }

@@ -11,6 +11,7 @@ use lib.Dec.{leb, ltb, eqb}
 use lib.ListN.{length, getD, drop}
 use lib.Seq.{getD-drop, drop-drop}
 use borrow.Author.Tests.{ne-eqb, eq-eqb, le-leb, eqb-true}
+use Rattle.rules.specs.Numbers as Numbers
 use Rattle.floats.specs.Ticks.{ticks}
 use Rattle.chart.specs.Layout.{chartSize, noteSize}
 use Rattle.chart.specs.declared.Note.{Note}
@@ -52,11 +53,11 @@ head-size s h = eqb-true (length s) (chartSize (countOf s)) (passes (headTests s
 
 -- ---- the reader's answers
 
-pub refused-head : (s : List ℕ) → okHead s ≡ false → refused 14 ≡ reading s
+pub refused-head : (s : List ℕ) → okHead s ≡ false → refused Numbers.brokenChart ≡ reading s
 unfolding reading readingOf decode okChart
 refused-head s h = rw h
 
-pub refused-rows : (s : List ℕ) → okRows (columnsOf s) 0 (countOf s) (drop 8 s) ≡ false → refused 14 ≡ reading s
+pub refused-rows : (s : List ℕ) → okRows (columnsOf s) 0 (countOf s) (drop 8 s) ≡ false → refused Numbers.brokenChart ≡ reading s
 unfolding reading readingOf decode okChart
 refused-rows s h = rw (h, and-false (okHead s))
 

@@ -9,6 +9,7 @@ use native.Mathlib.Omega.{arith}
 use lib.ListN.{length, getD, take, drop, set, length-append, length-set, take-append-drop, drop-of-length-le}
 use lib.Seq.{drop-cons, drop-drop, drop-set-lt, length-take-le, take-suc-set}
 use borrow.Author.Tests.{le-leb, lt-leb}
+use Rattle.rules.specs.Numbers as Numbers
 use Rattle.chart.specs.declared.Note.{Note}
 use Rattle.chart_lookup.specs.Lookup.{refused, nothing, found, places, filled, counted, given, blank}
 use Rattle.chart_lookup.specs.Search.{NoneFrom, run}
@@ -75,7 +76,7 @@ unfolding given counted filled
 none-found [] list e = rw (le-leb 0 (length list) (omega arith))
 none-found (p ∷ ps) list e = absurd (omega arith)
 
-pub too-many : (ps list : List ℕ) → length list < length ps → (refused 19, list) ≡ given ps list
+pub too-many : (ps list : List ℕ) → length list < length ps → (refused Numbers.listTooShort, list) ≡ given ps list
 unfolding given
 too-many ps list l = rw (lt-leb (length ps) (length list) l)
 

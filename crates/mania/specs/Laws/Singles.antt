@@ -7,6 +7,7 @@ use mathlib.Core.List.{List}
 use lib.Dec.{eqb, leb, ltb}
 use lib.ListN.{length}
 use borrow.Author.Tests.{eq-eqb, ne-eqb, eqb-true, ltb-true, leb-true}
+use Rattle.rules.specs.Numbers as Numbers
 use Rattle.rules.specs.Rule.{ended, run, if_then_else_}
 use Rattle.rules.specs.Ledger.{longest}
 use Rattle.rules.specs.Refusal.{number, spentNumber, ObjectRule}
@@ -95,7 +96,7 @@ module _ (f : Facts) (v : PrevValues) (columns : ℕ) (o : Object) (r : Random) 
 
     -- its notes are too long for the buffer: 11
     pub single-full : (m : Made) (e : Draws) → on (object f v columns o) lent ≡ found m e → ltb (length buffer) (noteSize * length (m .notes)) ≡ true
-        → singleObject f v columns o r a buffer ≡ refusing 11 r buffer
+        → singleObject f v columns o r a buffer ≡ refusing Numbers.chartTooShort r buffer
     unfolding withRoom play
     single-full m e h l = stopped 11 e (found-bind (object f v columns o) _ lent m e h ∙ rw l)
 

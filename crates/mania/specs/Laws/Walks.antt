@@ -8,6 +8,7 @@ use mathlib.Core.List.{List, [], _∷_, _++_, append-assoc, append-nil}
 use lib.Dec.{ltb}
 use lib.Ieee.{Float}
 use lib.ListN.{length}
+use Rattle.rules.specs.Numbers as Numbers
 use Rattle.rules.specs.Rule.{give, label, _>>=_, ended}
 use Rattle.rules.specs.Refusal.{number, spentNumber, ObjectRule}
 use Rattle.random.specs.Generator.{seeded}
@@ -67,7 +68,7 @@ module _ (s : Song) (difficulty : Float) (columns room i : ℕ) (w : Walk) where
     unfolding objectIn play
     in-room made e h f = found-bind (object facts (w .prev) columns o) _ d made e h ∙ rw f
 
-    out-of-room : (made : Made) (e : Draws) → on (object facts (w .prev) columns o) d ≡ found made e → tooLong made ≡ true → on (objectIn columns room facts w o) d ≡ refused 11 e
+    out-of-room : (made : Made) (e : Draws) → on (object facts (w .prev) columns o) d ≡ found made e → tooLong made ≡ true → on (objectIn columns room facts w o) d ≡ refused Numbers.chartTooShort e
     unfolding objectIn play
     out-of-room made e h f = found-bind (object facts (w .prev) columns o) _ d made e h ∙ rw f
 
@@ -89,7 +90,7 @@ module _ (s : Song) (difficulty : Float) (columns room i : ℕ) (w : Walk) where
 
     -- its notes are too long for the buffer: 11
     pub walk-full : (made : Made) (e : Draws) → on (object facts (w .prev) columns o) d ≡ found made e → tooLong made ≡ true → (nss : List (List Note))
-        → before nss (onWalk (walk s difficulty columns room i w (o ∷ os)) d) ≡ refused (stop i 11) e
+        → before nss (onWalk (walk s difficulty columns room i w (o ∷ os)) d) ≡ refused (stop i Numbers.chartTooShort) e
     walk-full made e h f nss = stopped 11 e (out-of-room made e h f) nss
 
     rest-before : (nss : List (List Note)) (ns : List Note) (a : Answer Stop (List (List Note)))

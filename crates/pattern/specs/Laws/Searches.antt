@@ -7,6 +7,7 @@ use native.Mathlib.Omega.{arith}
 use mathlib.Core.Bool.{Bool, true, false}
 use lib.Dec.{eqb}
 use borrow.Author.Tests.{eqb-true, eqb-false}
+use Rattle.rules.specs.Numbers as Numbers
 use Rattle.rules.specs.Rule.{give, refuse, if_then_else_}
 use Rattle.rules.specs.Refusal.{ObjectRule, noColumn, longSearch}
 use Rattle.random.specs.Generator.{between}
@@ -78,7 +79,7 @@ module _ (n columns taken c : ℕ) (d : Draws) where
       let k : n ≡ suc (n - 1) = omega arith in
       ap (λ (m : ℕ). on (stepTo m columns taken c) d) k ∙ rw (← i, f)
 
-  pub step-out : n ≤ 0 → on (stepTo n columns taken c) d ≡ refused 9 d
+  pub step-out : n ≤ 0 → on (stepTo n columns taken c) d ≡ refused Numbers.noColumn d
   unfolding stepTo play
   step-out h = let k : n ≡ 0 = omega arith in rw k
 
@@ -116,10 +117,10 @@ module _ (lower upper taken : ℕ) where
           → drawOn made d ≡ drawOn (made + 1) e
       draw-miss v e c h i f = took-until d v e h longSearch passes finds (searchLimit - made) made some ∙ rw (← i, f, fewer, add-one made)
 
-      pub draw-out : on value d ≡ refused 12 d → drawOn made d ≡ refused 12 (searched made d)
+      pub draw-out : on value d ≡ refused Numbers.noDrawLeft d → drawOn made d ≡ refused Numbers.noDrawLeft (searched made d)
       draw-out h = none-until longSearch passes finds (searchLimit - made) made d d h some
 
-    pub draw-over : searchLimit ≤ made → drawOn made d ≡ refused 16 (searched made d)
+    pub draw-over : searchLimit ≤ made → drawOn made d ≡ refused Numbers.longSearch (searched made d)
     draw-over h = let z : searchLimit - made ≡ 0 = omega arith in limit-until longSearch passes finds (searchLimit - made) made d z
 
 -- ---- the whole search
@@ -135,7 +136,7 @@ module _ (next : Next) (columns i lower upper taken : ℕ) (d : Draws) where
   find-on f a = rw (f, a)
 
   pub find-none : free taken i ≡ false → anyFree taken lower (upper - lower) ≡ false
-      → on (columnSearch next columns i lower upper taken) d ≡ refused 9 d
+      → on (columnSearch next columns i lower upper taken) d ≡ refused Numbers.noColumn d
   unfolding columnSearch play
   find-none f a = rw (f, a)
 

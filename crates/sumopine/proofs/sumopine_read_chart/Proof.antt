@@ -13,6 +13,9 @@ enum-known-c c = search needs
 enum-told : tie.Need-enum-told
 enum-told c = search needs
 
+cast-result : tie.Need-cast-result
+cast-result c = search needs
+
 returns : tie.Need-returns
 returns c = rw (← c .before .before .before .read .ensures, c .before .c .given .1) (refl, (refl, (refl, refl)))
 
@@ -21,4 +24,4 @@ returns-2 c = rw (← c .before .before .read .ensures, c .enum-told .given .1) 
 
 pub sumopine-read-chart-spec : {M : Type 1} → statement M
 sumopine-read-chart-spec =
-    tie.close (tie.spec read-requires enum-known-c enum-told returns returns-2)
+    tie.close (tie.spec read-requires enum-known-c enum-told cast-result returns returns-2)
