@@ -5,7 +5,8 @@ use mathlib.Core.Bool.{Bool, false, not, _&&_, _||_}
 use lib.Dec.{T, eqb, ltb}
 use lib.Ieee.{Float, binary32, binary64, fits, le}
 use lib.ListN.{length}
-use Rattle.model.specs.Limits.{mostEntries}
+use Rattle.model.specs.Limits.{mostEntries, settingRange}
+use Rattle.rules.specs.Numbers as Numbers
 use Rattle.rules.specs.Rule.{if_then_else_}
 use Rattle.floats.specs.Range.{inRange}
 use Rattle.model.specs.Song.{Song}
@@ -32,15 +33,15 @@ use Rattle.announced.specs.declared.Ends.the-variants as Ends
 
 -- ---- the columns
 
--- both ends lie in 0 to 10, and the lower is not above the upper
+-- both ends are settings that a record can have, and the lower is not above the upper
 unfoldable pub settingFits : SettingRange → Bool
-settingFits range = inRange (single 0 1) (single 10 1) (range .low) && inRange (single 0 1) (single 10 1) (range .high) && le (range .low) (range .high)
+settingFits range = Single.inside settingRange (range .low) && Single.inside settingRange (range .high) && le (range .low) (range .high)
 
 -- the number of the first check that fails, 0 where none does; `long` of the objects are sliders or spinners
 unfoldable pub columnsRefusal : SettingRange → SettingRange → ℕ → ℕ → ℕ
 columnsRefusal od cs long objects =
-    if not (settingFits od && settingFits cs) then 20
-    else if ltb mostEntries objects || ltb objects long then 21
+    if not (settingFits od && settingFits cs) then Numbers.range
+    else if ltb mostEntries objects || ltb objects long then Numbers.counts
     else 0
 
 -- an f32 of the range
@@ -93,8 +94,8 @@ distanceFits range = Single.distanceFits (Given (range .low)) && Single.distance
 unfoldable pub endsRefusal : Slider → DistanceRange → ℕ
 endsRefusal slider range =
     if not (eqb (restRefusal slider) 0) then restRefusal slider
-    else if not (distanceFits range) then 20
-    else if ltb latest (endAt slider (range .high)) then 8
+    else if not (distanceFits range) then Numbers.range
+    else if ltb latest (endAt slider (range .high)) then Numbers.sliderEnd
     else 0
 
 -- an f64 of the range

@@ -11,14 +11,15 @@ use borrow.Author.Tests.{ltb-true, ltb-false, eqb-true, eqb-false}
 use lib.Bits.{bitOr}
 use lib.Dec.{T, eqb, ltb, lit<, lit≤}
 use lib.IntN.{pos}
-use lib.Ieee.{Float, nan, inf, fin, binary32, binary64, fits, neg, le, lt, eq, round}
+use lib.Ieee.{Float, nan, inf, fin, binary32, binary64, fits, le, lt, eq, round}
 use lib.Ieee.Back.{round-whole}
 use lib.Ieee.Exact.{HasValue}
 use lib.Ieee.Fits.{ofInt-fits, and-i}
 use lib.Ieee.Order.{le-of-values}
 use lib.Ieee.Positive.{num, den, den-pos}
 use lib.ListN.{length}
-use Rattle.model.specs.Limits.{mostSpans, mostEntries}
+use Rattle.model.specs.Limits.{mostSpans, mostEntries, longestBeat, longestDistance, settingRange, multiplierRange, beatRange, velocityRange, spanRange, distanceRange}
+use Rattle.rules.specs.Numbers as Numbers
 use Rattle.rules.specs.Rule.{if_then_else_}
 use Rattle.floats.specs.Range.{inRange}
 use Rattle.floats.specs.Whole.{count}
@@ -37,7 +38,7 @@ use Rattle.model.specs.declared.Settings.{Settings}
 use Rattle.model.specs.Song.{Song}
 use Rattle.model.specs.Totals.{longer, slidersAndSpinners}
 use Rattle.mania.specs.Steps.{single, single#, double}
-use Rattle.mania.specs.Single.{patternFits, settingsFit, objectFits, entryRefusal, pointsFit, positionFits, distanceFits as distanceIn, nodeFits, kindFits}
+use Rattle.mania.specs.Single.{inside, patternFits, settingsFit, objectFits, entryRefusal, pointsFit, positionFits, distanceFits as distanceIn, nodeFits, kindFits}
 use Rattle.mania.specs.PathObject.{endTime, startTime, distanceOf, latest}
 use Rattle.mania.specs.Laws.Tests.{two, three}
 use Rattle.mania.specs.Laws.SliderTimes.{end-mono}
@@ -162,12 +163,12 @@ record Fit (r : SettingRange) : Type 0 where
 fit : (r : SettingRange) → settingFits r ≡ true → Fit r
 unfolding settingFits
 fit r h =
-    let t = three (inRange (single 0 1) (single 10 1) (r .low)) (inRange (single 0 1) (single 10 1) (r .high)) (le (r .low) (r .high)) h in
-    let zero-sized = sized (single 0 1) 0 1 (round-whole binary32 false 0 (lit≤ tt)) in
+    let t = three (inside settingRange (r .low)) (inside settingRange (r .high)) (le (r .low) (r .high)) h in
+    let zero-sized = sized (settingRange .low) 0 1 (round-whole binary32 false 0 (lit≤ tt)) in
     let ten = round-whole binary32 false 10 (lit≤ tt) in
     record {
-      low = up-to 10 (single 0 1) (single 10 1) (r .low) zero-sized ten (hold (t .0));
-      high = up-to 10 (single 0 1) (single 10 1) (r .high) zero-sized ten (hold (t .1));
+      low = up-to 10 (settingRange .low) (settingRange .high) (r .low) zero-sized ten (hold (t .0));
+      high = up-to 10 (settingRange .low) (settingRange .high) (r .high) zero-sized ten (hold (t .1));
       order = hold (t .2);
     }
 
@@ -348,12 +349,12 @@ module _ (s : Slider) where
   unfolding patternFits nothing
   pattern-fits = refl
 
-  settings-fit : settingsFit (factsOf s) ≡ inRange (double 4 10) (double 36 10) (s .multiplier)
+  settings-fit : settingsFit (factsOf s) ≡ inside multiplierRange (s .multiplier)
   unfolding settingsFit factsOf round le lt eq
-  settings-fit = and-true (inRange (double 4 10) (double 36 10) (s .multiplier))
+  settings-fit = and-true (inside multiplierRange (s .multiplier))
 
   abbrev objectTests : Bool
-  objectTests = positionFits (s .position) && inRange (double 0 1) (double 16777215 1) (s .start) && ltb (s .sound) 16 && kindFits (Kind.Slider (s .repeats) Missing (s .node))
+  objectTests = positionFits (s .position) && inside spanRange (s .start) && ltb (s .sound) 16 && kindFits (Kind.Slider (s .repeats) Missing (s .node))
 
   object-fits : objectFits (factsOf s) nothing (objectOf s Missing) ≡ objectTests
   unfolding objectFits factsOf objectOf nothing round
@@ -363,14 +364,14 @@ module _ (s : Slider) where
       place = positionFits (record { x = single 0 1; y = single 0 1 })
 
       place-fits : place ≡ true
-      place-fits = unfold positionFits inRange neg le lt eq in refl
+      place-fits = unfold positionFits inRange le lt eq in refl
 
   -- 4 for the multiplier, 5 for beat length and velocity, 6 for position, start, sound, repeats and node sound
   abbrev pub restChecks : ℕ
   restChecks =
-      if not (inRange (double 4 10) (double 36 10) (s .multiplier)) then 4
-      else if not (pointsFit (factsOf s)) then 5
-      else if not objectTests then 6
+      if not (inside multiplierRange (s .multiplier)) then Numbers.setting
+      else if not (pointsFit (factsOf s)) then Numbers.breakOrPoint
+      else if not objectTests then Numbers.object
       else 0
 
   pub rest-is : restRefusal s ≡ restChecks
@@ -381,24 +382,24 @@ module _ (s : Slider) where
 record Known (s : Slider) : Type 0 where
   multiplier : AtLeast 3 (s .multiplier)
   velocity : AtLeast 10 (s .velocity)
-  beat : UpTo 60000 (s .beat)
+  beat : UpTo longestBeat (s .beat)
   spans : s .repeats + 1 ≤ mostSpans
 
 known : (s : Slider) → restRefusal s ≡ 0 → Known s
 unfolding pointsFit factsOf kindFits round
 known s e =
-    let m = passed (inRange (double 4 10) (double 36 10) (s .multiplier)) 4 _ (lit< tt) (sym (rest-is s) ∙ e) in
-    let p = passed (inRange (double 6 1) (double 60000 1) (s .beat) && inRange (double 1 10) (double 10 1) (s .velocity)) 5 _ (lit< tt) (m .1) in
+    let m = passed (inside multiplierRange (s .multiplier)) Numbers.setting _ (lit< tt) (sym (rest-is s) ∙ e) in
+    let p = passed (inside beatRange (s .beat) && inside velocityRange (s .velocity)) Numbers.breakOrPoint _ (lit< tt) (m .1) in
     let place = positionFits (s .position) in
-    let start = inRange (double 0 1) (double 16777215 1) (s .start) in
+    let start = inside spanRange (s .start) in
     let sound = ltb (s .sound) 16 in
-    let o = passed (place && start && sound && (ltb (s .repeats) mostSpans && distanceIn Missing && nodeFits (s .node))) 6 _ (lit< tt) (p .1) in
-    let t = two (inRange (double 6 1) (double 60000 1) (s .beat)) (inRange (double 1 10) (double 10 1) (s .velocity)) (p .0) in
+    let o = passed (place && start && sound && (ltb (s .repeats) mostSpans && distanceIn Missing && nodeFits (s .node))) Numbers.object _ (lit< tt) (p .1) in
+    let t = two (inside beatRange (s .beat)) (inside velocityRange (s .velocity)) (p .0) in
     let k = two (place && start && sound) (ltb (s .repeats) mostSpans && distanceIn Missing && nodeFits (s .node)) (o .0) .1 in
     record {
-      multiplier = at-least 3 (double 4 10) (double 36 10) (s .multiplier) (record { size = (refl, refl); low = lit≤ tt }) (refl, refl) (hold (m .0));
-      velocity = at-least 10 (double 1 10) (double 10 1) (s .velocity) (record { size = (refl, refl); low = lit≤ tt }) (refl, refl) (hold (t .1));
-      beat = up-to 60000 (double 6 1) (double 60000 1) (s .beat) (refl, refl) (refl, refl) (hold (t .0));
+      multiplier = at-least 3 (multiplierRange .low) (multiplierRange .high) (s .multiplier) (record { size = (refl, refl); low = lit≤ tt }) (refl, refl) (hold (m .0));
+      velocity = at-least 10 (velocityRange .low) (velocityRange .high) (s .velocity) (record { size = (refl, refl); low = lit≤ tt }) (refl, refl) (hold (t .1));
+      beat = up-to longestBeat (beatRange .low) (beatRange .high) (s .beat) (refl, refl) (refl, refl) (hold (t .0));
       spans = few (s .repeats) (ltb-true (s .repeats) mostSpans (three (ltb (s .repeats) mostSpans) (distanceIn Missing) (nodeFits (s .node)) k .0));
     }
   where
@@ -409,33 +410,33 @@ known s e =
 pub small-fields : (s : Slider) → restRefusal s ≡ 0 → (s .sound < 16) × (s .repeats < mostSpans) × (nodeFits (s .node) ≡ true)
 unfolding pointsFit factsOf kindFits
 small-fields s e =
-    let m = passed (inRange (double 4 10) (double 36 10) (s .multiplier)) 4 _ (lit< tt) (sym (rest-is s) ∙ e) in
-    let p = passed (inRange (double 6 1) (double 60000 1) (s .beat) && inRange (double 1 10) (double 10 1) (s .velocity)) 5 _ (lit< tt) (m .1) in
+    let m = passed (inside multiplierRange (s .multiplier)) Numbers.setting _ (lit< tt) (sym (rest-is s) ∙ e) in
+    let p = passed (inside beatRange (s .beat) && inside velocityRange (s .velocity)) Numbers.breakOrPoint _ (lit< tt) (m .1) in
     let place = positionFits (s .position) in
-    let start = inRange (double 0 1) (double 16777215 1) (s .start) in
+    let start = inside spanRange (s .start) in
     let sound = ltb (s .sound) 16 in
     let few = ltb (s .repeats) mostSpans in
-    let o = passed (place && start && sound && (few && distanceIn Missing && nodeFits (s .node))) 6 _ (lit< tt) (p .1) in
+    let o = passed (place && start && sound && (few && distanceIn Missing && nodeFits (s .node))) Numbers.object _ (lit< tt) (p .1) in
     let t = two (place && start && sound) (few && distanceIn Missing && nodeFits (s .node)) (o .0) in
     let k = three few (distanceIn Missing) (nodeFits (s .node)) (t .1) in
     (ltb-true (s .sound) 16 (three place start sound (t .0) .2), ltb-true (s .repeats) mostSpans (k .0), k .2)
 
 module _ (s : Slider) (r : DistanceRange) (e : restRefusal s ≡ 0) (h : distanceFits r ≡ true) (F : T (fits binary64 (r .low))) (G : T (fits binary64 (r .high))) where
-  tests : (inRange (double 0 1) (double 131072 1) (r .low) ≡ true) × (inRange (double 0 1) (double 131072 1) (r .high) ≡ true) × (le (r .low) (r .high) ≡ true)
+  tests : (inside distanceRange (r .low) ≡ true) × (inside distanceRange (r .high) ≡ true) × (le (r .low) (r .high) ≡ true)
   unfolding distanceFits distanceIn
-  tests = three (inRange (double 0 1) (double 131072 1) (r .low)) (inRange (double 0 1) (double 131072 1) (r .high)) (le (r .low) (r .high)) h
+  tests = three (inside distanceRange (r .low)) (inside distanceRange (r .high)) (le (r .low) (r .high)) h
 
-  upto : (x : Float) → inRange (double 0 1) (double 131072 1) x ≡ true → UpTo 131072 x
-  upto x t = up-to 131072 (double 0 1) (double 131072 1) x (sized (double 0 1) 0 1 (round-whole binary64 false 0 (lit≤ tt))) (round-whole binary64 false 131072 (lit≤ tt)) (hold t)
+  upto : (x : Float) → inside distanceRange x ≡ true → UpTo longestDistance x
+  upto x t = up-to longestDistance (distanceRange .low) (distanceRange .high) x (sized (distanceRange .low) 0 1 (round-whole binary64 false 0 (lit≤ tt))) (round-whole binary64 false longestDistance (lit≤ tt)) (hold t)
 
-  low-upto : UpTo 131072 (r .low)
+  low-upto : UpTo longestDistance (r .low)
   low-upto = upto (r .low) (tests .0)
 
-  high-upto : UpTo 131072 (r .high)
+  high-upto : UpTo longestDistance (r .high)
   high-upto = upto (r .high) (tests .1)
 
   -- the end rises with the distance
-  rises : (x y : Float) → UpTo 131072 x → UpTo 131072 y → Below x y → endAt s x ≤ endAt s y
+  rises : (x y : Float) → UpTo longestDistance x → UpTo longestDistance y → Below x y → endAt s x ≤ endAt s y
   unfolding endAt endTime startTime objectOf factsOf distanceOf
   rises x y v w b =
       let k = known s e in
@@ -453,7 +454,7 @@ module _ (s : Slider) (r : DistanceRange) (e : restRefusal s ≡ 0) (h : distanc
         within = λ d i.
             let v = in-sized (r .low) (r .high) d (low-upto .size) (high-upto .size) (i .1) in
             let up = in-high (r .low) (r .high) d (low-upto .size) (high-upto .size) (i .1) in
-            let u = upto-below 131072 d (r .high) v high-upto up in
+            let u = upto-below longestDistance d (r .high) v high-upto up in
             (rises (r .low) d low-upto u (in-low (r .low) (r .high) d (low-upto .size) (high-upto .size) (i .1)), rises d (r .high) u high-upto up);
         first = (r .low, lower-in, refl);
         last = (r .high, upper-in, refl);

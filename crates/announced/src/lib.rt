@@ -13,8 +13,8 @@ use model::Kind;
 use model::NodeSound;
 use model::Object;
 use model::Position;
-use model::limits::LATEST_END;
-use model::limits::MOST_OBJECTS;
+use model::limits;
+use rules::numbers;
 
 // A range of od or cs, ends included.
 pub struct SettingRange {
@@ -54,14 +54,14 @@ pub enum Ends {
 
 // ---- the columns
 
-// Both ends lie in 0 to 10, and the lower is not above the upper.
+// Both ends are settings that a record can have, and the lower is not above the upper.
 fn setting_fits(range: SettingRange) -> bool
     ensures { λ r. ⌜ r ≡ settingFits range ⌝ }
 {
     let low = range.low;
     let high = range.high;
-    let a = floats::in_range_f32(low, 0.0, 10.0);
-    let b = floats::in_range_f32(high, 0.0, 10.0);
+    let a = floats::in_range_f32(low, limits::LEAST_SETTING, limits::MOST_SETTING);
+    let b = floats::in_range_f32(high, limits::LEAST_SETTING, limits::MOST_SETTING);
     a & b & (low <= high)
 }
 
@@ -72,12 +72,12 @@ fn columns_refusal(od: SettingRange, cs: SettingRange, long: u32, objects: u32) 
     let a = setting_fits(od);
     let b = setting_fits(cs);
     let fit = a & b;
-    let many = (MOST_OBJECTS < objects) | (objects < long);
+    let many = (limits::MOST_OBJECTS < objects) | (objects < long);
     if !fit {
-        return 20;
+        return numbers::RANGE;
     }
     if many {
-        return 21;
+        return numbers::COUNTS;
     }
     0
 }
@@ -199,14 +199,14 @@ pub fn possible_ends(slider: Slider, range: DistanceRange) -> Ends
         return Ends::Refused(refusal);
     }
     if !distance_fits(range) {
-        return Ends::Refused(20);
+        return Ends::Refused(numbers::RANGE);
     }
     let low = range.low;
     let high = range.high;
     let earliest = end_at(slider, low);
     let latest = end_at(slider, high);
-    if LATEST_END < latest {
-        return Ends::Refused(8);
+    if limits::LATEST_END < latest {
+        return Ends::Refused(numbers::SLIDER_END);
     }
     Ends::Between(earliest, latest)
 }

@@ -3,7 +3,7 @@ use mathlib.Core.Path.{_≡_, sym, ap, _∙_, subst}
 use Prim.Native.Nat.{ℕ, suc, _≤_}
 use native.Mathlib.Omega.{arith}
 use mathlib.Core.List.{List, [], _∷_}
-use lib.Ieee.{Float, round}
+use lib.Ieee.{Float, round, ofInt}
 use lib.ListN.{length}
 use Rattle.model.specs.declared.Kind.{Kind}
 use Rattle.model.specs.declared.Kind.the-variants.{Circle, Slider, Spinner, Hold}
@@ -58,9 +58,10 @@ module _ (bytes : List ℕ) (m : Summary) (k : Known bytes m) where
   difficulty-is x b e f = f ∙ rw (e, ← (k .breaks), k .settings, k .first, k .last, k .number)
 
   pub settings-accepted : Accepted (m .settings)
+  unfolding ofInt
   settings-accepted =
       let fit = fit-song bytes (songOf bytes) (k .parsed) .settings in
-      subst Accepted (sym (k .settings)) (record { hp = fit .hp .range; cs = fit .cs .range; od = fit .od .range; ar = fit .ar .range })
+      subst Accepted (sym (k .settings)) (record { hp = fit .hp .inside; cs = fit .cs .inside; od = fit .od .inside; ar = fit .ar .inside })
 
 -- ---- the walk over the part is the walk over the song
 

@@ -10,7 +10,8 @@ use model::Kind;
 use model::NodeSound;
 use model::Object;
 use model::Position;
-use model::limits::MOST_SPANS;
+use model::limits;
+use rules::numbers;
 
 // 2^n.
 fn power(n: u8) -> u16
@@ -34,7 +35,7 @@ fn last_fits(mask: u16, last: u8, columns: u8) -> bool
     (mask >> last) % 2 != 0
 }
 
-// 13: columns 1 to 9, no mask bit beyond them, and the last column.
+// Columns 1 to 9, no mask bit beyond them, and the last column.
 fn pattern_fits(v: PrevValues, columns: u8) -> bool
     ensures { λ r. ⌜ r ≡ patternFits v columns ⌝ }
 {
@@ -52,40 +53,42 @@ fn pattern_fits(v: PrevValues, columns: u8) -> bool
     last_fits(mask, last, columns)
 }
 
-// 4: the multiplier, and a difficulty that is finite and at most 12.
+// The multiplier, and a difficulty that is finite and not too high.
 fn settings_fit(f: Facts) -> bool
     ensures { λ r. ⌜ r ≡ settingsFit f ⌝ }
 {
-    let a = floats::in_range(f.multiplier, 0.4, 3.6);
+    let a = floats::in_range(
+        f.multiplier,
+        limits::LEAST_MULTIPLIER,
+        limits::MOST_MULTIPLIER,
+    );
     let b = floats::is_finite(f.difficulty);
-    a & (b & (f.difficulty <= 12.0))
+    a & (b & (f.difficulty <= limits::MOST_DIFFICULTY))
 }
 
-// 5: beat length and velocity.
+// Beat length and velocity.
 fn points_fit(f: Facts) -> bool
     ensures { λ r. ⌜ r ≡ pointsFit f ⌝ }
 {
-    let a = floats::in_range(f.beat, 6.0, 60000.0);
-    let b = floats::in_range(f.velocity, 0.1, 10.0);
+    let a = floats::in_range(f.beat, limits::LEAST_BEAT, limits::MOST_BEAT);
+    let b = floats::in_range(f.velocity, limits::LEAST_VELOCITY, limits::MOST_VELOCITY);
     a & b
 }
 
-// x and y, -512 to 1,024.
 fn position_fits(p: Position) -> bool
     ensures { λ r. ⌜ r ≡ positionFits p ⌝ }
 {
-    let a = floats::in_range_f32(p.x, -512.0, 1024.0);
-    let b = floats::in_range_f32(p.y, -512.0, 1024.0);
+    let a = floats::in_range_f32(p.x, limits::LEAST_COORDINATE, limits::MOST_COORDINATE);
+    let b = floats::in_range_f32(p.y, limits::LEAST_COORDINATE, limits::MOST_COORDINATE);
     a & b
 }
 
-// 0 to 131,072.
 pub fn distance_fits(d: Distance) -> bool
     ensures { λ r. ⌜ r ≡ distanceFits d ⌝ }
 {
     match d {
         Distance::Missing => true,
-        Distance::Given(x) => floats::in_range(x, 0.0, 131072.0),
+        Distance::Given(x) => floats::in_range(x, limits::LEAST_DISTANCE, limits::MOST_DISTANCE),
     }
 }
 
@@ -104,7 +107,7 @@ fn slider_fits(repeats: u16, distance: Distance, node: NodeSound) -> bool
 {
     let a = distance_fits(distance);
     let b = node_fits(node);
-    (repeats < MOST_SPANS) & a & b
+    (repeats < limits::MOST_SPANS) & a & b
 }
 
 fn kind_fits(k: Kind) -> bool
@@ -117,12 +120,16 @@ fn kind_fits(k: Kind) -> bool
             distance,
             node,
         } => slider_fits(repeats, distance, node),
-        Kind::Spinner(duration) => floats::in_range(duration, 0.0, 16777215.0),
-        Kind::Hold(duration) => floats::in_range(duration, 0.0, 16777215.0),
+        Kind::Spinner(duration) => floats::in_range(
+            duration,
+            limits::LEAST_SPAN,
+            limits::MOST_SPAN,
+        ),
+        Kind::Hold(duration) => floats::in_range(duration, limits::LEAST_SPAN, limits::MOST_SPAN),
     }
 }
 
-// 6: the object, and the previous position, time and density.
+// The object, and the previous position, time and density.
 fn object_fits(f: Facts, v: PrevValues, o: Object) -> bool
     ensures { λ r. ⌜ r ≡ objectFits f v o ⌝ }
 {
@@ -130,7 +137,7 @@ fn object_fits(f: Facts, v: PrevValues, o: Object) -> bool
     let kind = o.kind;
     let before = v.position;
     let a = position_fits(position);
-    let b = floats::in_range(o.start, 0.0, 16777215.0);
+    let b = floats::in_range(o.start, limits::LEAST_SPAN, limits::MOST_SPAN);
     let c = kind_fits(kind);
     let d = position_fits(before);
     let e = floats::is_finite(v.time);
@@ -143,16 +150,16 @@ pub fn entry_refusal(f: Facts, v: PrevValues, columns: u8, o: Object) -> u8
     ensures { λ r. ⌜ r ≡ entryRefusal f v columns o ⌝ }
 {
     if !pattern_fits(v, columns) {
-        return 13;
+        return numbers::COLUMNS_OR_PREVIOUS;
     }
     if !settings_fit(f) {
-        return 4;
+        return numbers::SETTING;
     }
     if !points_fit(f) {
-        return 5;
+        return numbers::BREAK_OR_POINT;
     }
     if !object_fits(f, v, o) {
-        return 6;
+        return numbers::OBJECT;
     }
     0
 }

@@ -6,7 +6,7 @@ use mathlib.Core.List.{List, [], _∷_}
 use lib.Dec.{lit≤}
 use lib.Ieee.{Float, binary64, round, le}
 use lib.Ieee.Fits.{round-fits}
-use Rattle.model.specs.Limits.{mostSpans}
+use Rattle.model.specs.Limits.{mostSpans, longestBeat, longestDistance}
 use Rattle.rules.specs.Rule.{if_then_else_}
 use Rattle.floats.specs.Laws.Values.{UpTo}
 use Rattle.floats.specs.Laws.Spans.{AtLeast}
@@ -27,18 +27,18 @@ use Rattle.job.proofs.Ranges.{FitDistance}
 
 -- ---- points in force
 
-beat-from : (beat : Float) (ps : List TimingPoint) (time : Float) → Span 60000 beat → Each (λ (t : TimingPoint). Span 60000 (t .beat)) ps → Span 60000 (beatFrom beat ps time)
+beat-from : (beat : Float) (ps : List TimingPoint) (time : Float) → Span longestBeat beat → Each (λ (t : TimingPoint). Span longestBeat (t .beat)) ps → Span longestBeat (beatFrom beat ps time)
 unfolding beatFrom
 beat-from beat [] time h k = h
 beat-from beat (p ∷ ps) time h k = go (le (p .time) time) (beat-from (p .beat) ps time (k .0) (k .1))
   where
-    go : (b : Bool) → Span 60000 (beatFrom (p .beat) ps time) → Span 60000 (if b then beatFrom (p .beat) ps time else beat)
+    go : (b : Bool) → Span longestBeat (beatFrom (p .beat) ps time) → Span longestBeat (if b then beatFrom (p .beat) ps time else beat)
     go true i = i
     go false i = h
 
-pub beat-at : (ps : List TimingPoint) (time : Float) → Each (λ (t : TimingPoint). Span 60000 (t .beat)) ps → Span 60000 (beatAt ps time)
+pub beat-at : (ps : List TimingPoint) (time : Float) → Each (λ (t : TimingPoint). Span longestBeat (t .beat)) ps → Span longestBeat (beatAt ps time)
 unfolding beatAt
-beat-at [] time k = record { exact = round-fits binary64 false 1000 1; range = whole-upto binary64 1000 60000 (lit≤ tt) (lit≤ tt) }
+beat-at [] time k = record { exact = round-fits binary64 false 1000 1; range = whole-upto binary64 1000 longestBeat (lit≤ tt) (lit≤ tt) }
 beat-at (p ∷ ps) time k = beat-from (p .beat) ps time (k .0) (k .1)
 
 velocity-from : (v : Float) (ps : List DifficultyPoint) (time : Float) → AtLeast 10 v → Each (λ (t : DifficultyPoint). AtLeast 10 (t .velocity)) ps → AtLeast 10 (velocityFrom v ps time)
@@ -60,11 +60,11 @@ velocity-at ps time k = velocity-from (double 1 1) ps time one-least k
 
 -- ---- the end
 
-distance-upto : (d : Distance) → FitDistance d → UpTo 131072 (distanceOf d)
+distance-upto : (d : Distance) → FitDistance d → UpTo longestDistance (distanceOf d)
 unfolding distanceOf
-distance-upto D.Missing h = whole-upto binary64 0 131072 (lit≤ tt) (lit≤ tt)
+distance-upto D.Missing h = whole-upto binary64 0 longestDistance (lit≤ tt) (lit≤ tt)
 distance-upto (D.Given d) h = h .range
 
-pub not-before : (f : Facts) (o : Object) (spans : ℕ) (distance : Distance) → spans ≤ mostSpans → FitDistance distance → AtLeast 10 (f .velocity) → Span 60000 (f .beat) → AtLeast 3 (f .multiplier)
+pub not-before : (f : Facts) (o : Object) (spans : ℕ) (distance : Distance) → spans ≤ mostSpans → FitDistance distance → AtLeast 10 (f .velocity) → Span longestBeat (f .beat) → AtLeast 3 (f .multiplier)
     → startTime o ≤ endTime f o spans distance
 not-before f o spans distance n d v b m = Times.not-before f o spans distance n (distance-upto distance d) v (b .range) m

@@ -22,6 +22,7 @@ use record::refusal::refuse;
 use record::section::Section;
 use record::section::section_refusal;
 use record_object::scan_objects;
+use rules::numbers;
 
 // Breaks and points.
 fn lists_refusal(s: &[u8], n: Counts) -> u8
@@ -43,9 +44,9 @@ fn fill_refusal(s: &[u8], at: usize) -> u8
 {
     let bytes = (at + 7) / 8;
     if read_bits(s, at, 8 * bytes - at) != 0 {
-        return 7;
+        return numbers::FILLING;
     }
-    refuse(bytes < s.len(), 7)
+    refuse(bytes < s.len(), numbers::FILLING)
 }
 
 // The first of `count` objects from bit `at` on: its start, 0 without objects.

@@ -1,4 +1,4 @@
--- What a generator asks of an object's fields: a start of 0 to 16,777,215, and at most 1,023 repeats. Assumes nothing.
+-- What a generator asks of an object's fields: a start that is not too late, and not too many repeats. Assumes nothing.
 use Prim.Native.Nat.{_≤_}
 use Rattle.model.specs.Limits.{mostRepeats, latestStart}
 use Rattle.floats.specs.Laws.Values.{UpTo}

@@ -3,10 +3,11 @@ use Prim.Native.Nat.{ℕ, _*_, _^_}
 use mathlib.Core.Bool.{Bool, true, not, _&&_}
 use mathlib.Core.List.{List}
 use lib.Dec.{eqb, leb, ltb}
-use lib.Ieee.{neg, le}
+use lib.Ieee.{Float, le}
 use lib.Ieee.Scale.{finite}
 use lib.ListN.{length}
-use Rattle.model.specs.Limits.{mostSpans}
+use Rattle.model.specs.Limits.{Range, mostSpans, multiplierRange, beatRange, velocityRange, spanRange, coordinateRange, distanceRange, mostDifficulty}
+use Rattle.rules.specs.Numbers as Numbers
 use Rattle.rules.specs.Rule.{Outcome, ended, refused, spent, give, refuse, run, _>>=_, if_then_else_}
 use Rattle.rules.specs.Refusal.{Refusal, tooShort, number, spentNumber, ObjectRule}
 use Rattle.floats.specs.Range.{inRange}
@@ -23,7 +24,6 @@ use Rattle.model.specs.declared.Distance.the-variants as D
 use Rattle.model.specs.declared.NodeSound.{NodeSound}
 use Rattle.model.specs.declared.NodeSound.the-variants as N
 use Rattle.mania.specs.declared.Stair.{Stair}
-use Rattle.mania.specs.Steps.{single, double}
 use Rattle.mania.specs.Pattern.{free}
 use Rattle.mania.specs.Made.{Made}
 use Rattle.mania.specs.Object.{object}
@@ -32,28 +32,30 @@ use Rattle.chart.specs.Layout.{noteSize}
 
 -- ---- the checks, in their order
 
--- 13: columns 1 to 9, no mask bit beyond them, and a last column of the mask, or 0 with an empty one
+-- in the range of its field
+abbrev pub inside : Range → Float → Bool
+inside range x = inRange (range .low) (range .high) x
+
+-- columns 1 to 9, no mask bit beyond them, and a last column of the mask, or 0 with an empty one
 unfoldable pub patternFits : PrevValues → ℕ → Bool
 patternFits v columns =
     leb 1 columns && leb columns 9 && ltb (v .mask) (2 ^ columns)
     && (if eqb (v .mask) 0 then eqb (v .last) 0 else ltb (v .last) columns && not (free (v .mask) (v .last)))
 
--- 4: the multiplier, and a difficulty that is finite and at most 12
+-- the multiplier, and a difficulty that is finite and not too high
 unfoldable pub settingsFit : Facts → Bool
-settingsFit f = inRange (double 4 10) (double 36 10) (f .multiplier) && (finite (f .difficulty) && le (f .difficulty) (double 12 1))
+settingsFit f = inside multiplierRange (f .multiplier) && (finite (f .difficulty) && le (f .difficulty) mostDifficulty)
 
--- 5: beat length and velocity
+-- beat length and velocity
 unfoldable pub pointsFit : Facts → Bool
-pointsFit f = inRange (double 6 1) (double 60000 1) (f .beat) && inRange (double 1 10) (double 10 1) (f .velocity)
+pointsFit f = inside beatRange (f .beat) && inside velocityRange (f .velocity)
 
--- x and y, −512 to 1,024
 unfoldable pub positionFits : Position → Bool
-positionFits p = inRange (neg (single 512 1)) (single 1024 1) (p .x) && inRange (neg (single 512 1)) (single 1024 1) (p .y)
+positionFits p = inside coordinateRange (p .x) && inside coordinateRange (p .y)
 
--- 0 to 131,072
 unfoldable pub distanceFits : Distance → Bool
 distanceFits D.Missing = true
-distanceFits (D.Given d) = inRange (double 0 1) (double 131072 1) d
+distanceFits (D.Given d) = inside distanceRange d
 
 -- four bits
 unfoldable pub nodeFits : NodeSound → Bool
@@ -64,18 +66,18 @@ nodeFits (N.Given s) = ltb s 16
 unfoldable pub kindFits : Kind → Bool
 kindFits Circle = true
 kindFits (Slider repeats distance node) = ltb repeats mostSpans && distanceFits distance && nodeFits node
-kindFits (Spinner duration) = inRange (double 0 1) (double 16777215 1) duration
-kindFits (Hold duration) = inRange (double 0 1) (double 16777215 1) duration
+kindFits (Spinner duration) = inside spanRange duration
+kindFits (Hold duration) = inside spanRange duration
 
--- 6: the object, and the previous position, time and density
+-- the object, and the previous position, time and density
 unfoldable pub objectFits : Facts → PrevValues → Object → Bool
 objectFits f v o =
-    positionFits (o .position) && inRange (double 0 1) (double 16777215 1) (o .start) && ltb (o .sound) 16 && kindFits (o .kind)
+    positionFits (o .position) && inside spanRange (o .start) && ltb (o .sound) 16 && kindFits (o .kind)
     && positionFits (v .position) && finite (v .time) && finite (f .density)
 
 -- ---- the rule
 
--- the object's rule, and then 11 where its notes are longer than the buffer
+-- the object's rule, and then a refusal where its notes are longer than the buffer
 unfoldable pub withRoom : Facts → PrevValues → ℕ → Object → ℕ → ObjectRule Made
 withRoom f v columns o room = do
   made ← object f v columns o
@@ -84,10 +86,10 @@ withRoom f v columns o room = do
 -- the number of the first check that fails, 0 where none does
 unfoldable pub entryRefusal : Facts → PrevValues → ℕ → Object → ℕ
 entryRefusal f v columns o =
-    if not (patternFits v columns) then 13
-    else if not (settingsFit f) then 4
-    else if not (pointsFit f) then 5
-    else if not (objectFits f v o) then 6
+    if not (patternFits v columns) then Numbers.columnsOrPrevious
+    else if not (settingsFit f) then Numbers.setting
+    else if not (pointsFit f) then Numbers.breakOrPoint
+    else if not (objectFits f v o) then Numbers.object
     else 0
 
 -- ---- what the entry gives

@@ -1,5 +1,7 @@
 -- Document 01's limits on a song and its notes, each once. src/limits.rt has those that code names. Assumes nothing.
 use Prim.Native.Nat.{ℕ, _+_, _*_}
+use mathlib.Core.Bool.{true, false}
+use lib.Ieee.{Float, binary32, binary64, round}
 
 -- repeats of a slider: the field has 10 bits
 abbrev pub mostRepeats : ℕ
@@ -36,3 +38,50 @@ latestStart = 16777215
 -- the latest end of a slider, and of a note in a chart, in ms
 abbrev pub latestEnd : ℕ
 latestEnd = 33554431
+
+-- the longest beat, in ms, and the longest distance of a slider
+abbrev pub longestBeat : ℕ
+longestBeat = 60000
+
+abbrev pub longestDistance : ℕ
+longestDistance = 131072
+
+-- ---- the range of each float field
+
+-- from low to high, both included
+pub record Range : Type 0 where
+  pub low : Float
+  pub high : Float
+
+-- hp, cs, od and ar
+abbrev pub settingRange : Range
+settingRange = record { low = round binary32 false 0 1; high = round binary32 false 10 1 }
+
+-- the slider multiplier
+abbrev pub multiplierRange : Range
+multiplierRange = record { low = round binary64 false 4 10; high = round binary64 false 36 10 }
+
+-- the time of a break or a point
+abbrev pub timeRange : Range
+timeRange = record { low = round binary64 true latestStart 1; high = round binary64 false latestStart 1 }
+
+abbrev pub beatRange : Range
+beatRange = record { low = round binary64 false 6 1; high = round binary64 false longestBeat 1 }
+
+abbrev pub velocityRange : Range
+velocityRange = record { low = round binary64 false 1 10; high = round binary64 false 10 1 }
+
+-- an object's start, and a duration
+abbrev pub spanRange : Range
+spanRange = record { low = round binary64 false 0 1; high = round binary64 false latestStart 1 }
+
+-- x and y
+abbrev pub coordinateRange : Range
+coordinateRange = record { low = round binary32 true 512 1; high = round binary32 false 1024 1 }
+
+abbrev pub distanceRange : Range
+distanceRange = record { low = round binary64 false 0 1; high = round binary64 false longestDistance 1 }
+
+-- the highest difficulty
+abbrev pub mostDifficulty : Float
+mostDifficulty = round binary64 false 12 1

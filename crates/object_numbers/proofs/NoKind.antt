@@ -5,7 +5,7 @@ use Prim.Native.Nat.{ℕ, zero, suc}
 use lib.Dec.{ltb}
 use lib.Ieee.{Float}
 use lib.Ieee.Scale.{finite}
-use Rattle.floats.specs.Range.{inRange}
+use Rattle.model.specs.Limits.{spanRange}
 use Rattle.model.specs.declared.Distance.{Distance}
 use Rattle.model.specs.declared.Distance.the-variants as D
 use Rattle.model.specs.declared.NodeSound.{NodeSound}
@@ -13,8 +13,7 @@ use Rattle.model.specs.declared.NodeSound.the-variants as N
 use Rattle.model.specs.declared.Kind.the-variants.{Slider}
 use Rattle.mania.specs.declared.Facts.{Facts}
 use Rattle.mania.specs.declared.PrevValues.{PrevValues}
-use Rattle.mania.specs.Steps.{double}
-use Rattle.mania.specs.Single.{positionFits, patternFits, settingsFit, pointsFit, kindFits, objectFits, entryRefusal}
+use Rattle.mania.specs.Single.{inside, positionFits, patternFits, settingsFit, pointsFit, kindFits, objectFits, entryRefusal}
 use Rattle.object_numbers.specs.Single.{kindOf, objectOf}
 
 pub no-kind : (k repeats : ℕ) (distance : Distance) (node : NodeSound) (duration : Float) → (k ≡ 0 → ⊥) → (k ≡ 1 → ⊥) → (k ≡ 2 → ⊥) → (k ≡ 3 → ⊥)
@@ -34,7 +33,7 @@ module _ (f : Facts) (v : PrevValues) (columns : ℕ) (x y start : Float) (sound
   unfit : objectFits f v (objectOf x y start sound (kindOf (suc (suc (suc (suc k)))) repeats distance node duration)) ≡ false
   unfolding kindOf objectFits kindFits
   unfit =
-      no-fourth (positionFits (record { x = x; y = y }) && inRange (double 0 1) (double 16777215 1) start && ltb sound 16) (positionFits (v .position)) (finite (v .time)) (finite (f .density))
+      no-fourth (positionFits (record { x = x; y = y }) && inside spanRange start && ltb sound 16) (positionFits (v .position)) (finite (v .time)) (finite (f .density))
 
   pub no-kind-refused : patternFits v columns ≡ true → settingsFit f ≡ true → pointsFit f ≡ true
       → entryRefusal f v columns (objectOf x y start sound (kindOf (suc (suc (suc (suc k)))) repeats distance node duration)) ≡ 6

@@ -8,12 +8,16 @@ ghost use Rattle.record.specs.Section.{timingPoints, difficultyPoints, effectPo
 ghost use Rattle.record.specs.declared.section.Section.the-variants.{TimingPoints, DifficultyPoints, EffectPoints};
 ghost use Rattle.points.specs.Lasting.{within, passed, Known, NumberLasts, BeatLasts, VelocityLasts, KiaiLasts};
 use bits::read_flag;
+use model::limits;
 use record::layout::EFFECT_ENTRY;
 use record::layout::ENTRY;
 use record::layout::SECOND;
 use record::refusal::f64_at;
 use record::section::Section;
 use record::section::width_of;
+
+// Above every start: stands for the time of a point after the last.
+const AFTER_ALL: f64 = limits::MOST_SPAN + 1.0;
 
 // How many points of a list are passed from one time on until another. A point is passed at the time t where its own time is at most t.
 pub struct Passed {
@@ -42,7 +46,7 @@ fn is_within(p: Passed, t: f64) -> bool
 }
 
 // How many of `count` points from bit `at` on are passed at the time t, after those that were passed at another. Starts never fall, so a walk over the
-// objects reads the time of each point once. No start reaches the time that stands for that of a point after the last.
+// objects reads the time of each point once.
 fn points_up_to(section: Section, s: &[u8], at: usize, count: usize, p: Passed, t: f64) -> Passed
     requires { ⌜ (at ≤ 200000000) × (count ≤ mostEntries) × Rising section (now s) at count × Known (passed section (now s) at count) count p ⌝ }
     ensures { λ r. ⌜ (r .number ≡ passed section (now (s .entry)) at count t) × NumberLasts section (now (s .entry)) at count r ⌝ }
@@ -68,7 +72,7 @@ fn points_up_to(section: Section, s: &[u8], at: usize, count: usize, p: Passed, 
     Passed {
         number,
         from,
-        until: 16777216.0,
+        until: AFTER_ALL,
     }
 }
 

@@ -3,15 +3,16 @@
 use Prim.Native.Nat.{ℕ, zero, suc, _+_, _-_, _*_, _/_, _≤_, _<_}
 use mathlib.Core.Path.{_≡_}
 use mathlib.Core.Logic.{_⊎_}
-use mathlib.Core.Bool.{Bool, false, not, _||_}
+use mathlib.Core.Bool.{Bool, not, _||_}
 use mathlib.Core.List.{List, [], _∷_, _++_}
 use lib.Dec.{ltb, eqb}
-use lib.IntN.{pos, negsuc}
 use lib.ListN.{length}
-use lib.Ieee.{Float, binary32, binary64, ofInt, round, lt}
+use lib.Ieee.{Float, binary32, binary64, lt}
+use Rattle.model.specs.Limits.{Range, settingRange, multiplierRange, timeRange, beatRange, velocityRange, spanRange, coordinateRange, distanceRange}
 use Rattle.bits.specs.Field.{bits, short}
 use Rattle.floats.specs.Range.{within}
 use Rattle.rules.specs.Each.{Each}
+use Rattle.rules.specs.Numbers as Numbers
 use Rattle.record.specs.declared.section.Section.{Section}
 use Rattle.record.specs.declared.section.Section.the-variants.{Breaks, TimingPoints, DifficultyPoints, EffectPoints}
 use Rattle.record.specs.Layout as At
@@ -36,25 +37,25 @@ abbrev pub plain : ℕ → ℕ → Field
 plain p w = record { place = p; width = w; own = 0 }
 
 -- out of its range, of an f32 and of an f64
-abbrev pub out32 : List ℕ → ℕ → Float → Float → Bool
-out32 s p lo hi = not (within binary32 lo hi (bits s p 32))
+abbrev pub out32 : List ℕ → ℕ → Range → Bool
+out32 s p range = not (within binary32 (range .low) (range .high) (bits s p 32))
 
-abbrev pub out64 : List ℕ → ℕ → Float → Float → Bool
-out64 s p lo hi = not (within binary64 lo hi (bits s p 64))
+abbrev pub out64 : List ℕ → ℕ → Range → Bool
+out64 s p range = not (within binary64 (range .low) (range .high) (bits s p 64))
 
 abbrev pub setting : List ℕ → ℕ → Field
-setting s p = field p 32 (out32 s p (ofInt binary32 (pos 0)) (ofInt binary32 (pos 10))) 4
+setting s p = field p 32 (out32 s p settingRange) Numbers.setting
 
 -- version, key choice, hp, cs, od, ar, multiplier, counts of breaks, timing, difficulty and effect points, and objects
 unfoldable pub headerFields : List ℕ → List Field
 headerFields s =
-    field At.version 4 (not (eqb (bits s At.version 4) 1)) 2
-    ∷ field At.keys 4 (ltb 9 (bits s At.keys 4)) 3
+    field At.version 4 (not (eqb (bits s At.version 4) 1)) Numbers.version
+    ∷ field At.keys 4 (ltb 9 (bits s At.keys 4)) Numbers.keyChoice
     ∷ setting s At.hp
     ∷ setting s At.cs
     ∷ setting s At.od
     ∷ setting s At.ar
-    ∷ field At.multiplier 64 (out64 s At.multiplier (round binary64 false 4 10) (round binary64 false 36 10)) 4
+    ∷ field At.multiplier 64 (out64 s At.multiplier multiplierRange) Numbers.setting
     ∷ plain At.breakCount 8
     ∷ plain At.timingCount 12
     ∷ plain At.difficultyCount 12
@@ -64,31 +65,31 @@ headerFields s =
 
 -- a break or point time
 abbrev pub badTime : List ℕ → ℕ → Bool
-badTime s p = out64 s p (ofInt binary64 (negsuc 16777214)) (ofInt binary64 (pos 16777215))
+badTime s p = out64 s p timeRange
 
 -- a point's time, after one at the time `before`
 abbrev pub pointTime : List ℕ → ℕ → Float → Field
-pointTime s p before = field p 64 (badTime s p || not (lt before (f64At s p))) 5
+pointTime s p before = field p 64 (badTime s p || not (lt before (f64At s p))) Numbers.breakOrPoint
 
 unfoldable pub entryFields : Section → List ℕ → ℕ → Float → List Field
-entryFields Breaks s p before = field p 64 (badTime s p) 5 ∷ field (p + At.second) 64 (badTime s (p + At.second) || lt (f64At s (p + At.second)) (f64At s p)) 5 ∷ []
+entryFields Breaks s p before = field p 64 (badTime s p) Numbers.breakOrPoint ∷ field (p + At.second) 64 (badTime s (p + At.second) || lt (f64At s (p + At.second)) (f64At s p)) Numbers.breakOrPoint ∷ []
 entryFields TimingPoints s p before =
-    pointTime s p before ∷ field (p + At.second) 64 (out64 s (p + At.second) (ofInt binary64 (pos 6)) (ofInt binary64 (pos 60000))) 5 ∷ []
+    pointTime s p before ∷ field (p + At.second) 64 (out64 s (p + At.second) beatRange) Numbers.breakOrPoint ∷ []
 entryFields DifficultyPoints s p before =
-    pointTime s p before ∷ field (p + At.second) 64 (out64 s (p + At.second) (round binary64 false 1 10) (ofInt binary64 (pos 10))) 5 ∷ []
+    pointTime s p before ∷ field (p + At.second) 64 (out64 s (p + At.second) velocityRange) Numbers.breakOrPoint ∷ []
 entryFields EffectPoints s p before = pointTime s p before ∷ plain (p + At.second) 1 ∷ []
 
 -- a start or a duration
 abbrev pub badSpan : List ℕ → ℕ → Bool
-badSpan s p = out64 s p (ofInt binary64 (pos 0)) (ofInt binary64 (pos 16777215))
+badSpan s p = out64 s p spanRange
 
 abbrev pub coordinate : List ℕ → ℕ → Field
-coordinate s p = field p 32 (out32 s p (ofInt binary32 (negsuc 511)) (ofInt binary32 (pos 1024))) 6
+coordinate s p = field p 32 (out32 s p coordinateRange) Numbers.object
 
 -- what a bit of 1 adds: the distance, the first node sound
 abbrev pub distanceFields : List ℕ → ℕ → ℕ → List Field
 distanceFields s p zero = []
-distanceFields s p (suc b) = field p 64 (out64 s p (ofInt binary64 (pos 0)) (ofInt binary64 (pos 131072))) 6 ∷ []
+distanceFields s p (suc b) = field p 64 (out64 s p distanceRange) Numbers.object ∷ []
 
 abbrev pub nodeFields : ℕ → ℕ → List Field
 nodeFields p zero = []
@@ -105,7 +106,7 @@ sliderFields s q =
 unfoldable pub kindFields : List ℕ → ℕ → ℕ → List Field
 kindFields s q zero = []
 kindFields s q (suc zero) = sliderFields s q
-kindFields s q (suc (suc k)) = field q 64 (badSpan s q) 6 ∷ []
+kindFields s q (suc (suc k)) = field q 64 (badSpan s q) Numbers.object ∷ []
 
 -- kind, sound, x, y, start, and what the kind adds, after an object that starts at `before`
 unfoldable pub objectFields : List ℕ → ℕ → Float → List Field
@@ -115,7 +116,7 @@ objectFields s p before =
     ∷ plain (p + At.sound) 4
     ∷ coordinate s (p + At.x)
     ∷ coordinate s (p + At.y)
-    ∷ field (p + At.start) 64 (badSpan s (p + At.start) || lt (startAt s p) before) 6
+    ∷ field (p + At.start) 64 (badSpan s (p + At.start) || lt (startAt s p) before) Numbers.object
     ∷ kindFields s (p + At.added) (bits s p 2)
 
 -- the fields of n entries from bit p on
@@ -147,21 +148,21 @@ fieldsOf s =
 -- the number of the first field that is not whole or has a refusal of its own
 unfoldable pub fieldsRefusal : List ℕ → List Field → ℕ
 fieldsRefusal s [] = 0
-fieldsRefusal s (f ∷ fs) = short s (f .place + f .width) gives 1 then f .own then fieldsRefusal s fs
+fieldsRefusal s (f ∷ fs) = short s (f .place + f .width) gives Numbers.fieldNotWhole then f .own then fieldsRefusal s fs
 
 -- the field is whole and has no refusal of its own
 pub record Passes (s : List ℕ) (f : Field) : Type 0 where
   pub whole : f .place + f .width ≤ 8 * length s
   pub good : f .own ≡ 0
 
--- The first field of fs that does not pass, with the number n: it is not whole and n is 1, or it is whole and n is its own refusal. All before it pass.
+-- The first field of fs that does not pass, with the number n: it is not whole and n says so, or it is whole and n is its own refusal. All before it pass.
 pub record First (s : List ℕ) (fs : List Field) (n : ℕ) : Type 0 where
   pub before : List Field
   pub at : Field
   pub after : List Field
   pub place : fs ≡ before ++ (at ∷ after)
   pub passed : Each (Passes s) before
-  pub cause : ((8 * length s < at .place + at .width) × (n ≡ 1)) ⊎ ((at .place + at .width ≤ 8 * length s) × (at .own ≡ n))
+  pub cause : ((8 * length s < at .place + at .width) × (n ≡ Numbers.fieldNotWhole)) ⊎ ((at .place + at .width ≤ 8 * length s) × (at .own ≡ n))
 
 -- zero bits fill the last byte after bit p, and no bytes follow
 pub record Fills (s : List ℕ) (p : ℕ) : Type 0 where

@@ -4,10 +4,9 @@ use mathlib.Core.Path.{_≡_}
 use mathlib.Core.Bool.{true, false}
 use mathlib.Core.List.{List, [], _∷_}
 use lib.Dec.{T}
-use lib.IntN.{pos, negsuc}
 use lib.ListN.{length}
-use lib.Ieee.{Float, Format, binary32, binary64, fits, ofInt, round, lt}
-use Rattle.model.specs.Limits.{mostSpans, mostBreaks, mostEntries}
+use lib.Ieee.{Float, Format, binary32, binary64, fits, lt}
+use Rattle.model.specs.Limits.{Range, mostSpans, mostBreaks, mostEntries, settingRange, multiplierRange, timeRange, beatRange, velocityRange, spanRange, coordinateRange, distanceRange}
 use Rattle.floats.specs.Range.{inRange}
 use Rattle.model.specs.declared.Settings.{Settings}
 use Rattle.model.specs.declared.BreakPeriod.{BreakPeriod}
@@ -24,27 +23,23 @@ use Rattle.model.specs.declared.Object.{Object}
 use Rattle.model.specs.Song.{Song}
 use Rattle.rules.specs.Each.{Each}
 
--- a float of the format, from lo to hi: no NaN, no infinity, no negative zero
-pub record Bounded (f : Format) (lo hi x : Float) : Type 0 where
+-- a float of the format, in the range: no NaN, no infinity, no negative zero
+pub record Bounded (f : Format) (range : Range) (x : Float) : Type 0 where
   pub exact : T (fits f x)
-  pub range : T (inRange lo hi x)
-
--- by whole numbers
-abbrev pub FromTo : Format → ℕ → ℕ → Float → Type 0
-FromTo f lo hi = Bounded f (ofInt f (pos lo)) (ofInt f (pos hi))
+  pub inside : T (inRange (range .low) (range .high) x)
 
 -- ---- settings and points
 
 pub record FitSettings (s : Settings) : Type 0 where
-  pub hp : FromTo binary32 0 10 (s .hp)
-  pub cs : FromTo binary32 0 10 (s .cs)
-  pub od : FromTo binary32 0 10 (s .od)
-  pub ar : FromTo binary32 0 10 (s .ar)
-  pub multiplier : Bounded binary64 (round binary64 false 4 10) (round binary64 false 36 10) (s .multiplier)
+  pub hp : Bounded binary32 settingRange (s .hp)
+  pub cs : Bounded binary32 settingRange (s .cs)
+  pub od : Bounded binary32 settingRange (s .od)
+  pub ar : Bounded binary32 settingRange (s .ar)
+  pub multiplier : Bounded binary64 multiplierRange (s .multiplier)
 
 -- a break or point time
 abbrev pub FitTime : Float → Type 0
-FitTime = Bounded binary64 (ofInt binary64 (negsuc 16777214)) (ofInt binary64 (pos 16777215))
+FitTime = Bounded binary64 timeRange
 
 pub record FitBreak (b : BreakPeriod) : Type 0 where
   pub start : FitTime (b .start)
@@ -53,11 +48,11 @@ pub record FitBreak (b : BreakPeriod) : Type 0 where
 
 pub record FitTiming (p : TimingPoint) : Type 0 where
   pub time : FitTime (p .time)
-  pub beat : FromTo binary64 6 60000 (p .beat)
+  pub beat : Bounded binary64 beatRange (p .beat)
 
 pub record FitDifficulty (p : DifficultyPoint) : Type 0 where
   pub time : FitTime (p .time)
-  pub velocity : Bounded binary64 (round binary64 false 1 10) (ofInt binary64 (pos 10)) (p .velocity)
+  pub velocity : Bounded binary64 velocityRange (p .velocity)
 
 abbrev pub FitEffect : EffectPoint → Type 0
 FitEffect p = FitTime (p .time)
@@ -66,11 +61,11 @@ FitEffect p = FitTime (p .time)
 
 -- a start or a duration
 abbrev pub FitSpan : Float → Type 0
-FitSpan = FromTo binary64 0 16777215
+FitSpan = Bounded binary64 spanRange
 
 abbrev pub FitDistance : Distance → Type 0
 FitDistance Distance.Missing = Unit {0}
-FitDistance (Distance.Given d) = FromTo binary64 0 131072 d
+FitDistance (Distance.Given d) = Bounded binary64 distanceRange d
 
 abbrev pub FitNode : NodeSound → Type 0
 FitNode NodeSound.Missing = Unit {0}
@@ -84,7 +79,7 @@ FitKind (Hold d) = FitSpan d
 
 -- a coordinate
 abbrev pub FitCoordinate : Float → Type 0
-FitCoordinate = Bounded binary32 (ofInt binary32 (negsuc 511)) (ofInt binary32 (pos 1024))
+FitCoordinate = Bounded binary32 coordinateRange
 
 pub record FitObject (o : Object) : Type 0 where
   pub x : FitCoordinate (o .position .x)

@@ -1,42 +1,42 @@
 -- The header: fields at fixed places. Assumes nothing.
 use Prim.Native.Nat.{ℕ, _≤_}
-use mathlib.Core.Bool.{not, false}
+use mathlib.Core.Bool.{not}
 use mathlib.Core.List.{List}
 use lib.Dec.{ltb, eqb}
-use lib.IntN.{pos}
-use lib.Ieee.{binary32, binary64, ofInt, round}
-use Rattle.model.specs.Limits.{mostEntries, mostBreaks}
+use lib.Ieee.{round}
+use Rattle.rules.specs.Numbers as Numbers
+use Rattle.model.specs.Limits.{mostEntries, mostBreaks, settingRange, multiplierRange}
 use Rattle.bits.specs.Field.{bits, short}
 use Rattle.model.specs.declared.Settings.{Settings}
 use Rattle.record.specs.declared.header.Counts.{Counts}
 use Rattle.record.specs.Layout as At
 use Rattle.record.specs.Refusal.{_gives_, _then_, f32Refusal, f64Refusal, f32At, f64At}
 
--- hp, cs, od and ar are from 0 to 10
+-- hp, cs, od or ar
 unfoldable pub settingRefusal : List ℕ → ℕ → ℕ
-unfolding ofInt f32Refusal
-settingRefusal s p = f32Refusal s p (ofInt binary32 (pos 0)) (ofInt binary32 (pos 10)) 4
+unfolding round f32Refusal
+settingRefusal s p = f32Refusal s p (settingRange .low) (settingRange .high) Numbers.setting
 
--- the slider multiplier is from 0.4 to 3.6
+-- the slider multiplier
 unfoldable pub multiplierRefusal : List ℕ → ℕ
 unfolding round f64Refusal
-multiplierRefusal s = f64Refusal s At.multiplier (round binary64 false 4 10) (round binary64 false 36 10) 4
+multiplierRefusal s = f64Refusal s At.multiplier (multiplierRange .low) (multiplierRange .high) Numbers.setting
 
 -- Version, key choice, hp, cs, od, ar, multiplier, and the five counts. A count can only be not whole, and no other condition stands between theirs, so
 -- one condition at the end of the last gives the same number (`Laws.Row.whole-once`).
 unfoldable pub headerRefusal : List ℕ → ℕ
 unfolding settingRefusal multiplierRefusal
 headerRefusal s =
-    short s At.keys gives 1
-    then not (eqb (bits s At.version 4) 1) gives 2
-    then short s At.hp gives 1
-    then ltb 9 (bits s At.keys 4) gives 3
+    short s At.keys gives Numbers.fieldNotWhole
+    then not (eqb (bits s At.version 4) 1) gives Numbers.version
+    then short s At.hp gives Numbers.fieldNotWhole
+    then ltb 9 (bits s At.keys 4) gives Numbers.keyChoice
     then settingRefusal s At.hp
     then settingRefusal s At.cs
     then settingRefusal s At.od
     then settingRefusal s At.ar
     then multiplierRefusal s
-    then short s At.breaks gives 1
+    then short s At.breaks gives Numbers.fieldNotWhole
 
 -- the key choice
 unfoldable pub keysOf : List ℕ → ℕ

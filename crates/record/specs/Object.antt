@@ -2,8 +2,9 @@
 use Prim.Native.Nat.{ℕ, zero, suc, _+_, _*_}
 use mathlib.Core.Bool.{false}
 use mathlib.Core.List.{List}
-use lib.IntN.{pos, negsuc}
-use lib.Ieee.{Float, binary32, binary64, ofInt, round, lt}
+use lib.Ieee.{Float, binary64, round, lt}
+use Rattle.rules.specs.Numbers as Numbers
+use Rattle.model.specs.Limits.{spanRange, distanceRange, coordinateRange}
 use Rattle.bits.specs.Field.{bits, short}
 use Rattle.model.specs.declared.Distance.{Distance}
 use Rattle.model.specs.declared.Distance.the-variants as Distance
@@ -59,28 +60,28 @@ kindEnd s q zero = q
 kindEnd s q (suc zero) = sliderEnd s q
 kindEnd s q (suc (suc k)) = q + 64
 
--- starts and durations are from 0 to 16,777,215; distances from 0 to 131,072; positions from −512 to 1,024
+-- a start or a duration, a distance, a coordinate
 unfoldable pub spanRefusal : List ℕ → ℕ → ℕ
-unfolding ofInt f64Refusal
-spanRefusal s p = f64Refusal s p (ofInt binary64 (pos 0)) (ofInt binary64 (pos 16777215)) 6
+unfolding round f64Refusal
+spanRefusal s p = f64Refusal s p (spanRange .low) (spanRange .high) Numbers.object
 
 unfoldable pub distanceRefusal : List ℕ → ℕ → ℕ → ℕ
-unfolding ofInt f64Refusal
+unfolding round f64Refusal
 distanceRefusal s p zero = 0
-distanceRefusal s p (suc b) = f64Refusal s p (ofInt binary64 (pos 0)) (ofInt binary64 (pos 131072)) 6
+distanceRefusal s p (suc b) = f64Refusal s p (distanceRange .low) (distanceRange .high) Numbers.object
 
 unfoldable pub positionRefusal : List ℕ → ℕ → ℕ
-unfolding ofInt f32Refusal
-positionRefusal s p = f32Refusal s p (ofInt binary32 (negsuc 511)) (ofInt binary32 (pos 1024)) 6
+unfolding round f32Refusal
+positionRefusal s p = f32Refusal s p (coordinateRange .low) (coordinateRange .high) Numbers.object
 
 -- Repeats and the bit after them can only be not whole: one condition at the end of both gives the same number (`Laws.Row.whole-once`).
 unfoldable pub sliderRefusal : List ℕ → ℕ → ℕ
 unfolding nodeBit sliderEnd distanceRefusal
 sliderRefusal s q =
-    short s (q + At.distance) gives 1
+    short s (q + At.distance) gives Numbers.fieldNotWhole
     then distanceRefusal s (q + At.distance) (bits s (q + At.isGiven) 1)
-    then short s (nodeBit s q + 1) gives 1
-    then short s (sliderEnd s q) gives 1
+    then short s (nodeBit s q + 1) gives Numbers.fieldNotWhole
+    then short s (sliderEnd s q) gives Numbers.fieldNotWhole
 
 unfoldable pub kindRefusal : List ℕ → ℕ → ℕ → ℕ
 unfolding sliderRefusal spanRefusal
@@ -119,11 +120,11 @@ readAt s p = record { object = readObject s p; next = objectEnd s p }
 unfoldable pub objectRefusal : List ℕ → ℕ → Float → ℕ
 unfolding positionRefusal spanRefusal kindRefusal startAt lt
 objectRefusal s p before =
-    short s (p + At.x) gives 1
+    short s (p + At.x) gives Numbers.fieldNotWhole
     then positionRefusal s (p + At.x)
     then positionRefusal s (p + At.y)
     then spanRefusal s (p + At.start)
-    then lt (startAt s p) before gives 6
+    then lt (startAt s p) before gives Numbers.object
     then kindRefusal s (p + At.added) (bits s p 2)
 
 -- ---- n objects from bit p on

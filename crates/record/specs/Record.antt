@@ -4,6 +4,7 @@ use mathlib.Core.Bool.{not, _||_}
 use mathlib.Core.List.{List}
 use lib.Dec.{ltb, eqb}
 use lib.ListN.{length}
+use Rattle.rules.specs.Numbers as Numbers
 use Rattle.bits.specs.Field.{bits}
 use Rattle.model.specs.Song.{Song}
 use Rattle.model.specs.Totals.{firstStart, lastStart, slidersAndSpinners}
@@ -45,7 +46,7 @@ listsRefusal s n =
 
 -- after the last object, at bit p: a bit up to the end of its byte is not 0, or bytes follow
 unfoldable pub fillRefusal : List ℕ → ℕ → ℕ
-fillRefusal s p = (not (eqb (bits s p (8 * ((p + 7) / 8) - p)) 0) || ltb ((p + 7) / 8) (length s)) gives 7
+fillRefusal s p = (not (eqb (bits s p (8 * ((p + 7) / 8) - p)) 0) || ltb ((p + 7) / 8) (length s)) gives Numbers.filling
 
 -- where the objects end
 unfoldable pub recordEnd : List ℕ → ℕ

@@ -4,6 +4,7 @@ use Prim.Native.Nat.{ℕ, zero, suc, _+_}
 use mathlib.Core.Bool.{Bool, true, false, not}
 use mathlib.Core.List.{List, [], _∷_}
 use lib.Ieee.{Float, binary32, binary64}
+use Rattle.rules.specs.Numbers as Numbers
 use Rattle.bits.specs.Field.{bits, short}
 use Rattle.floats.specs.Range.{within, float}
 
@@ -21,11 +22,11 @@ suc a then b = suc a
 
 -- a float field of 32 bits at bit p: first it is whole, then it is from lo to hi, else n
 unfoldable pub f32Refusal : List ℕ → ℕ → Float → Float → ℕ → ℕ
-f32Refusal s p lo hi n = short s (p + 32) gives 1 then not (within binary32 lo hi (bits s p 32)) gives n
+f32Refusal s p lo hi n = short s (p + 32) gives Numbers.fieldNotWhole then not (within binary32 lo hi (bits s p 32)) gives n
 
 -- the same of 64 bits
 unfoldable pub f64Refusal : List ℕ → ℕ → Float → Float → ℕ → ℕ
-f64Refusal s p lo hi n = short s (p + 64) gives 1 then not (within binary64 lo hi (bits s p 64)) gives n
+f64Refusal s p lo hi n = short s (p + 64) gives Numbers.fieldNotWhole then not (within binary64 lo hi (bits s p 64)) gives n
 
 -- the float field of 32 bits at bit p
 unfoldable pub f32At : List ℕ → ℕ → Float

@@ -1,10 +1,11 @@
 -- The four lists whose entries have one width: breaks, timing points, difficulty points and effect points. Assumes nothing.
 use Prim.Native.Nat.{ℕ, _+_}
-use mathlib.Core.Bool.{not, false}
+use mathlib.Core.Bool.{not, true}
 use mathlib.Core.List.{List}
 use lib.Dec.{eqb}
-use lib.IntN.{pos, negsuc}
-use lib.Ieee.{Float, binary64, ofInt, round, lt}
+use lib.Ieee.{Float, binary64, round, lt}
+use Rattle.rules.specs.Numbers as Numbers
+use Rattle.model.specs.Limits.{latestStart, timeRange, beatRange, velocityRange}
 use Rattle.bits.specs.Field.{bits, short}
 use Rattle.model.specs.declared.BreakPeriod.{BreakPeriod}
 use Rattle.model.specs.declared.TimingPoint.{TimingPoint}
@@ -26,36 +27,36 @@ widthOf EffectPoints = At.effectEntry
 abbrev pub entryEnd : Section → ℕ → ℕ
 entryEnd k p = p + widthOf k
 
--- break and point times lie in ±16,777,215, beat lengths from 6 to 60,000, velocities from 0.1 to 10
+-- a break or point time, a beat length, a velocity
 unfoldable pub timeRefusal : List ℕ → ℕ → ℕ
-unfolding ofInt f64Refusal
-timeRefusal s p = f64Refusal s p (ofInt binary64 (negsuc 16777214)) (ofInt binary64 (pos 16777215)) 5
+unfolding round f64Refusal
+timeRefusal s p = f64Refusal s p (timeRange .low) (timeRange .high) Numbers.breakOrPoint
 
 unfoldable pub beatRefusal : List ℕ → ℕ → ℕ
-unfolding ofInt f64Refusal
-beatRefusal s p = f64Refusal s p (ofInt binary64 (pos 6)) (ofInt binary64 (pos 60000)) 5
+unfolding round f64Refusal
+beatRefusal s p = f64Refusal s p (beatRange .low) (beatRange .high) Numbers.breakOrPoint
 
 unfoldable pub velocityRefusal : List ℕ → ℕ → ℕ
-unfolding round ofInt f64Refusal
-velocityRefusal s p = f64Refusal s p (round binary64 false 1 10) (ofInt binary64 (pos 10)) 5
+unfolding round f64Refusal
+velocityRefusal s p = f64Refusal s p (velocityRange .low) (velocityRange .high) Numbers.breakOrPoint
 
 -- a point's time at bit p, after a point at the time `before`: times rise strictly
 unfoldable pub risingRefusal : List ℕ → ℕ → Float → ℕ
 unfolding timeRefusal f64At lt
-risingRefusal s p before = timeRefusal s p then not (lt before (f64At s p)) gives 5
+risingRefusal s p before = timeRefusal s p then not (lt before (f64At s p)) gives Numbers.breakOrPoint
 
 -- The entry at bit p. A break's start is not above its end, and breaks have no order. Kiai can only be not whole.
 unfoldable pub entryRefusal : Section → List ℕ → ℕ → Float → ℕ
 unfolding timeRefusal risingRefusal beatRefusal velocityRefusal f64At lt
-entryRefusal Breaks s p before = timeRefusal s p then timeRefusal s (p + At.second) then lt (f64At s (p + At.second)) (f64At s p) gives 5
+entryRefusal Breaks s p before = timeRefusal s p then timeRefusal s (p + At.second) then lt (f64At s (p + At.second)) (f64At s p) gives Numbers.breakOrPoint
 entryRefusal TimingPoints s p before = risingRefusal s p before then beatRefusal s (p + At.second)
 entryRefusal DifficultyPoints s p before = risingRefusal s p before then velocityRefusal s (p + At.second)
-entryRefusal EffectPoints s p before = risingRefusal s p before then short s (p + At.effectEntry) gives 1
+entryRefusal EffectPoints s p before = risingRefusal s p before then short s (p + At.effectEntry) gives Numbers.fieldNotWhole
 
 -- below every time: stands before the first point's
 unfoldable pub noTime : Float
-unfolding ofInt
-noTime = ofInt binary64 (negsuc 16777215)
+unfolding round
+noTime = round binary64 true (latestStart + 1) 1
 
 -- n entries from bit p on
 unfoldable pub sectionRefusal : Section → List ℕ → ℕ → ℕ → ℕ

@@ -13,6 +13,8 @@ use crate::refusal::refuse;
 use bits::is_short;
 use bits::read_bits;
 use model::Settings;
+use model::limits;
+use rules::numbers;
 
 // How many entries each list has.
 pub struct Counts {
@@ -35,28 +37,40 @@ fn setting_refusal(s: &[u8], at: usize) -> u8
     requires { ⌜ at ≤ 1000000000 ⌝ }
     ensures { λ r. ⌜ r ≡ settingRefusal (now (s .entry)) at ⌝ }
 {
-    f32_refusal(s, at, 0.0, 10.0, 4)
+    f32_refusal(
+        s,
+        at,
+        limits::LEAST_SETTING,
+        limits::MOST_SETTING,
+        numbers::SETTING,
+    )
 }
 
 fn multiplier_refusal(s: &[u8]) -> u8
     ensures { λ r. ⌜ r ≡ multiplierRefusal (now (s .entry)) ⌝ }
 {
-    f64_refusal(s, layout::MULTIPLIER, 0.4, 3.6, 4)
+    f64_refusal(
+        s,
+        layout::MULTIPLIER,
+        limits::LEAST_MULTIPLIER,
+        limits::MOST_MULTIPLIER,
+        numbers::SETTING,
+    )
 }
 
 pub fn header_refusal(s: &[u8]) -> u8
     ensures { λ r. ⌜ r ≡ headerRefusal (now (s .entry)) ⌝ }
 {
-    let version_short = refuse(is_short(s, layout::KEYS), 1);
-    let version = refuse(read_bits(s, layout::VERSION, 4) != 1, 2);
-    let keys_short = refuse(is_short(s, layout::HP), 1);
-    let keys = refuse(read_bits(s, layout::KEYS, 4) > 9, 3);
+    let version_short = refuse(is_short(s, layout::KEYS), numbers::FIELD_NOT_WHOLE);
+    let version = refuse(read_bits(s, layout::VERSION, 4) != 1, numbers::VERSION);
+    let keys_short = refuse(is_short(s, layout::HP), numbers::FIELD_NOT_WHOLE);
+    let keys = refuse(read_bits(s, layout::KEYS, 4) > 9, numbers::KEY_CHOICE);
     let hp = setting_refusal(s, layout::HP);
     let cs = setting_refusal(s, layout::CS);
     let od = setting_refusal(s, layout::OD);
     let ar = setting_refusal(s, layout::AR);
     let multiplier = multiplier_refusal(s);
-    let counts = refuse(is_short(s, layout::BREAKS), 1);
+    let counts = refuse(is_short(s, layout::BREAKS), numbers::FIELD_NOT_WHOLE);
     let settings = first(
         hp,
         first(cs, first(od, first(ar, first(multiplier, counts)))),

@@ -9,6 +9,7 @@ use floats::pattern_f32;
 use floats::pattern_f64;
 use floats::within_f32;
 use floats::within_f64;
+use rules::numbers;
 
 // The number n under the condition t.
 pub fn refuse(t: bool, n: u8) -> u8
@@ -29,7 +30,7 @@ pub fn f32_refusal(s: &[u8], at: usize, lo: f32, hi: f32, n: u8) -> u8
     requires { ⌜ at ≤ 1000000000 ⌝ }
     ensures { λ r. ⌜ r ≡ f32Refusal (now (s .entry)) at lo hi n ⌝ }
 {
-    let whole = refuse(is_short(s, at + 32), 1);
+    let whole = refuse(is_short(s, at + 32), numbers::FIELD_NOT_WHOLE);
     let value = refuse(!within_f32(read32(s, at), lo, hi), n);
     first(whole, value)
 }
@@ -39,7 +40,7 @@ pub fn f64_refusal(s: &[u8], at: usize, lo: f64, hi: f64, n: u8) -> u8
     requires { ⌜ at ≤ 1000000000 ⌝ }
     ensures { λ r. ⌜ r ≡ f64Refusal (now (s .entry)) at lo hi n ⌝ }
 {
-    let whole = refuse(is_short(s, at + 64), 1);
+    let whole = refuse(is_short(s, at + 64), numbers::FIELD_NOT_WHOLE);
     let value = refuse(!within_f64(read_bits(s, at, 64), lo, hi), n);
     first(whole, value)
 }

@@ -12,6 +12,11 @@ use crate::refusal::f64_refusal;
 use crate::refusal::first;
 use crate::refusal::refuse;
 use bits::is_short;
+use model::limits;
+use rules::numbers;
+
+// Below every time.
+const BEFORE_ALL: f64 = limits::LEAST_TIME - 1.0;
 
 pub enum Section {
     Breaks,
@@ -36,21 +41,39 @@ fn time_refusal(s: &[u8], at: usize) -> u8
     requires { ⌜ at ≤ 1000000000 ⌝ }
     ensures { λ r. ⌜ r ≡ timeRefusal (now (s .entry)) at ⌝ }
 {
-    f64_refusal(s, at, -16777215.0, 16777215.0, 5)
+    f64_refusal(
+        s,
+        at,
+        limits::LEAST_TIME,
+        limits::MOST_TIME,
+        numbers::BREAK_OR_POINT,
+    )
 }
 
 fn beat_refusal(s: &[u8], at: usize) -> u8
     requires { ⌜ at ≤ 1000000000 ⌝ }
     ensures { λ r. ⌜ r ≡ beatRefusal (now (s .entry)) at ⌝ }
 {
-    f64_refusal(s, at, 6.0, 60000.0, 5)
+    f64_refusal(
+        s,
+        at,
+        limits::LEAST_BEAT,
+        limits::MOST_BEAT,
+        numbers::BREAK_OR_POINT,
+    )
 }
 
 fn velocity_refusal(s: &[u8], at: usize) -> u8
     requires { ⌜ at ≤ 1000000000 ⌝ }
     ensures { λ r. ⌜ r ≡ velocityRefusal (now (s .entry)) at ⌝ }
 {
-    f64_refusal(s, at, 0.1, 10.0, 5)
+    f64_refusal(
+        s,
+        at,
+        limits::LEAST_VELOCITY,
+        limits::MOST_VELOCITY,
+        numbers::BREAK_OR_POINT,
+    )
 }
 
 // A point's time, after a point at the time `before`.
@@ -59,7 +82,7 @@ fn rising_refusal(s: &[u8], at: usize, before: f64) -> u8
     ensures { λ r. ⌜ r ≡ risingRefusal (now (s .entry)) at before ⌝ }
 {
     let time = time_refusal(s, at);
-    let order = refuse(!(before < f64_at(s, at)), 5);
+    let order = refuse(!(before < f64_at(s, at)), numbers::BREAK_OR_POINT);
     first(time, order)
 }
 
@@ -69,7 +92,10 @@ fn break_refusal(s: &[u8], at: usize) -> u8
 {
     let start = time_refusal(s, at);
     let end = time_refusal(s, at + layout::SECOND);
-    let order = refuse(f64_at(s, at + layout::SECOND) < f64_at(s, at), 5);
+    let order = refuse(
+        f64_at(s, at + layout::SECOND) < f64_at(s, at),
+        numbers::BREAK_OR_POINT,
+    );
     first(start, first(end, order))
 }
 
@@ -93,7 +119,10 @@ fn entry_refusal(section: Section, s: &[u8], at: usize, before: f64) -> u8
         Section::EffectPoints => {
             first(
                 rising_refusal(s, at, before),
-                refuse(is_short(s, at + layout::EFFECT_ENTRY), 1),
+                refuse(
+                    is_short(s, at + layout::EFFECT_ENTRY),
+                    numbers::FIELD_NOT_WHOLE,
+                ),
             )
         }
     }
@@ -106,7 +135,7 @@ pub fn section_refusal(section: Section, s: &[u8], at: usize, count: usize) -> u
 {
     let width = width_of(section);
     let mut here = at;
-    let mut before: f64 = -16777216.0;
+    let mut before: f64 = BEFORE_ALL;
     let mut left = count;
     while left > 0 {
         let refusal = entry_refusal(section, s, here, before);

@@ -14,6 +14,7 @@ use model::Kind;
 use model::NodeSound;
 use model::Object;
 use model::Position;
+use model::limits;
 use record::layout;
 use record::objects::ReadObject;
 use record::objects::Scan;
@@ -23,6 +24,7 @@ use record::refusal::f64_at;
 use record::refusal::f64_refusal;
 use record::refusal::first;
 use record::refusal::refuse;
+use rules::numbers;
 
 fn read_sound(s: &[u8], at: usize) -> u8
     requires { ⌜ at ≤ 1000000000 ⌝ }
@@ -154,7 +156,13 @@ fn span_refusal(s: &[u8], at: usize) -> u8
     requires { ⌜ at ≤ 1000000000 ⌝ }
     ensures { λ r. ⌜ r ≡ spanRefusal (now (s .entry)) at ⌝ }
 {
-    f64_refusal(s, at, 0.0, 16777215.0, 6)
+    f64_refusal(
+        s,
+        at,
+        limits::LEAST_SPAN,
+        limits::MOST_SPAN,
+        numbers::OBJECT,
+    )
 }
 
 fn distance_refusal(s: &[u8], at: usize, given: usize) -> u8
@@ -164,7 +172,13 @@ fn distance_refusal(s: &[u8], at: usize, given: usize) -> u8
     if given == 0 {
         0
     } else {
-        f64_refusal(s, at, 0.0, 131072.0, 6)
+        f64_refusal(
+            s,
+            at,
+            limits::LEAST_DISTANCE,
+            limits::MOST_DISTANCE,
+            numbers::OBJECT,
+        )
     }
 }
 
@@ -172,21 +186,27 @@ fn position_refusal(s: &[u8], at: usize) -> u8
     requires { ⌜ at ≤ 1000000000 ⌝ }
     ensures { λ r. ⌜ r ≡ positionRefusal (now (s .entry)) at ⌝ }
 {
-    f32_refusal(s, at, -512.0, 1024.0, 6)
+    f32_refusal(
+        s,
+        at,
+        limits::LEAST_COORDINATE,
+        limits::MOST_COORDINATE,
+        numbers::OBJECT,
+    )
 }
 
 fn slider_refusal(s: &[u8], at: usize) -> u8
     requires { ⌜ at ≤ 900000000 ⌝ }
     ensures { λ r. ⌜ r ≡ sliderRefusal (now (s .entry)) at ⌝ }
 {
-    let whole = refuse(is_short(s, at + layout::DISTANCE), 1);
+    let whole = refuse(is_short(s, at + layout::DISTANCE), numbers::FIELD_NOT_WHOLE);
     let distance = distance_refusal(
         s,
         at + layout::DISTANCE,
         read_flag(s, at + layout::IS_GIVEN),
     );
-    let node = refuse(is_short(s, node_bit(s, at) + 1), 1);
-    let sound = refuse(is_short(s, slider_end(s, at)), 1);
+    let node = refuse(is_short(s, node_bit(s, at) + 1), numbers::FIELD_NOT_WHOLE);
+    let sound = refuse(is_short(s, slider_end(s, at)), numbers::FIELD_NOT_WHOLE);
     first(whole, first(distance, first(node, sound)))
 }
 
@@ -206,11 +226,11 @@ fn object_refusal(s: &[u8], at: usize, before: f64) -> u8
     requires { ⌜ at ≤ 800000000 ⌝ }
     ensures { λ r. ⌜ r ≡ objectRefusal (now (s .entry)) at before ⌝ }
 {
-    let whole = refuse(is_short(s, at + layout::X), 1);
+    let whole = refuse(is_short(s, at + layout::X), numbers::FIELD_NOT_WHOLE);
     let x = position_refusal(s, at + layout::X);
     let y = position_refusal(s, at + layout::Y);
     let start = span_refusal(s, at + layout::START);
-    let order = refuse(f64_at(s, at + layout::START) < before, 6);
+    let order = refuse(f64_at(s, at + layout::START) < before, numbers::OBJECT);
     let kind = kind_refusal(s, at + layout::ADDED, read_bits(s, at, 2));
     first(whole, first(x, first(y, first(start, first(order, kind)))))
 }

@@ -11,7 +11,7 @@ use lib.Ieee.Back.{round-whole}
 use lib.Ieee.Exact.{HasValue}
 use lib.Ieee.Fits.{round-is, ofInt-fits}
 use lib.Ieee.Positive.{num, den, den-pos, value→cross}
-use Rattle.model.specs.Limits.{mostSpans}
+use Rattle.model.specs.Limits.{mostSpans, longestBeat, longestDistance}
 use Rattle.rules.specs.Rule.{if_then_else_}
 use Rattle.floats.specs.Narrow.{narrowed}
 use Rattle.floats.specs.Laws.Values.{Sized, UpTo, sized, mul-at-most, div-at-most, div-value, round-at-most, sum-at-most, add-ge}
@@ -73,7 +73,20 @@ minus-hundred : HasValue (neg (double 100 1)) true 100 1
 unfolding neg round
 minus-hundred = (refl, refl)
 
-module _ (velocity beat : Float) (h : AtLeast 10 velocity) (k : UpTo 60000 beat) where
+-- the bounds of a slider's duration, step by step
+abbrev longestAdjusted : ℕ
+longestAdjusted = longestBeat * 100
+
+abbrev longestPath : ℕ
+longestPath = longestDistance * longestAdjusted
+
+abbrev longestSpanned : ℕ
+longestSpanned = longestPath * mostSpans
+
+abbrev longestLasting : ℕ
+longestLasting = 3 * longestSpanned
+
+module _ (velocity beat : Float) (h : AtLeast 10 velocity) (k : UpTo longestBeat beat) where
   abbrev asBeat : Float
   asBeat = div binary64 (neg (double 100 1)) velocity
 
@@ -113,11 +126,11 @@ module _ (velocity beat : Float) (h : AtLeast 10 velocity) (k : UpTo 60000 beat)
       reach : (N D : ℕ) → N ≤ 10000 * D → N * 1 ≤ 100 * (100 * D)
       reach N D l = omega arith
 
-  pub adjusted : UpTo 6000000 (adjustedBeat velocity beat)
+  pub adjusted : UpTo longestAdjusted (adjustedBeat velocity beat)
   unfolding adjustedBeat
   adjusted =
       let m = pick 100 (lt asBeat (double 0 1)) _ _ part (whole-upto binary64 1 100 (lit≤ tt) (lit≤ tt)) in
-      mul-at-most binary64 beat _ 60000 100 k m (lit≤ tt)
+      mul-at-most binary64 beat _ longestBeat 100 k m (lit≤ tt)
 
 -- ---- the end
 
@@ -133,7 +146,7 @@ int-whole : (n : ℕ) → n ≤ 2 ^ 53 → num (double# n) ≡ n * den (double# 
 unfolding ofInt
 int-whole n h = let x = round binary64 false n 1 in sym (mul-one (num x)) ∙ value→cross x n 1 (round-whole binary64 false n h)
 
-module _ (f : Facts) (o : Object) (spans : ℕ) (distance : Distance) (n : spans ≤ mostSpans) (d : UpTo 131072 (distanceOf distance)) (v : AtLeast 10 (f .velocity)) (b : UpTo 60000 (f .beat))
+module _ (f : Facts) (o : Object) (spans : ℕ) (distance : Distance) (n : spans ≤ mostSpans) (d : UpTo longestDistance (distanceOf distance)) (v : AtLeast 10 (f .velocity)) (b : UpTo longestBeat (f .beat))
     (m : AtLeast 3 (f .multiplier)) where
   abbrev start : ℕ
   start = startTime o
@@ -163,20 +176,20 @@ module _ (f : Facts) (o : Object) (spans : ℕ) (distance : Distance) (n : spans
   spans-upto : UpTo mostSpans (double# spans)
   spans-upto = int-upto spans mostSpans (le-trans n (lit≤ tt)) n
 
-  path-upto : UpTo 786432000000 path
-  path-upto = mul-at-most binary64 (distanceOf distance) (adjustedBeat (f .velocity) (f .beat)) 131072 6000000 d (adjusted (f .velocity) (f .beat) v b) (lit≤ tt)
+  path-upto : UpTo longestPath path
+  path-upto = mul-at-most binary64 (distanceOf distance) (adjustedBeat (f .velocity) (f .beat)) longestDistance longestAdjusted d (adjusted (f .velocity) (f .beat) v b) (lit≤ tt)
 
-  spanned-upto : UpTo 805306368000000 spanned
-  spanned-upto = mul-at-most binary64 path (double# spans) 786432000000 mostSpans path-upto spans-upto (lit≤ tt)
+  spanned-upto : UpTo longestSpanned spanned
+  spanned-upto = mul-at-most binary64 path (double# spans) longestPath mostSpans path-upto spans-upto (lit≤ tt)
 
-  whole-upto-hundredth : UpTo 805306368000000 whole
-  whole-upto-hundredth = mul-at-most binary64 spanned (double 1 100) 805306368000000 1 spanned-upto hundredth-upto (lit≤ tt)
+  whole-upto-hundredth : UpTo longestSpanned whole
+  whole-upto-hundredth = mul-at-most binary64 spanned (double 1 100) longestSpanned 1 spanned-upto hundredth-upto (lit≤ tt)
 
   multiplier-some : 0 < num (f .multiplier)
   multiplier-some = some-num 3 (num (f .multiplier)) (den (f .multiplier)) (den-pos (f .multiplier)) (m .low)
 
-  lasts-upto : UpTo 2415919104000000 lasts
-  lasts-upto = div-at-most binary64 whole (f .multiplier) 805306368000000 3 whole-upto-hundredth (m .size) multiplier-some (m .low) (lit≤ tt)
+  lasts-upto : UpTo longestLasting lasts
+  lasts-upto = div-at-most binary64 whole (f .multiplier) longestSpanned 3 whole-upto-hundredth (m .size) multiplier-some (m .low) (lit≤ tt)
 
   start-upto : UpTo (2 ^ 31) (double# start)
   start-upto = int-upto start (2 ^ 31) start-small (under start start-lt)
@@ -186,7 +199,7 @@ module _ (f : Facts) (o : Object) (spans : ℕ) (distance : Distance) (n : spans
 
   end-sized : Sized (add binary64 (double# start) lasts)
   end-sized =
-      sum-at-most binary64 (double# start) lasts (ofInt-fits binary64 (pos start)) (start-upto .size) (lasts-upto .size) (2 ^ 31) 2415919104000000 (start-upto .high) (lasts-upto .high) (lit< tt) .size
+      sum-at-most binary64 (double# start) lasts (ofInt-fits binary64 (pos start)) (start-upto .size) (lasts-upto .size) (2 ^ 31) longestLasting (start-upto .high) (lasts-upto .high) (lit< tt) .size
 
   pub not-before : start ≤ endTime f o spans distance
   unfolding endTime
@@ -198,8 +211,8 @@ module _ (f : Facts) (o : Object) (spans : ℕ) (distance : Distance) (n : spans
       (le-of-mul-le-mul-right (le-trans (le-of-eq (mul-right-comm start (den S) (den x) ∙ ap (λ (z : ℕ). z * den S) (sym (int-whole start start-small)))) g) (den-pos x))
 
 -- ---- a larger distance has no earlier end: each step keeps the order, and so does the floor
-module _ (f : Facts) (o : Object) (spans : ℕ) (near far : Distance) (n : spans ≤ mostSpans) (d : UpTo 131072 (distanceOf near)) (e : UpTo 131072 (distanceOf far)) (v : AtLeast 10 (f .velocity))
-    (b : UpTo 60000 (f .beat)) (m : AtLeast 3 (f .multiplier)) (h : Below (distanceOf near) (distanceOf far)) where
+module _ (f : Facts) (o : Object) (spans : ℕ) (near far : Distance) (n : spans ≤ mostSpans) (d : UpTo longestDistance (distanceOf near)) (e : UpTo longestDistance (distanceOf far)) (v : AtLeast 10 (f .velocity))
+    (b : UpTo longestBeat (f .beat)) (m : AtLeast 3 (f .multiplier)) (h : Below (distanceOf near) (distanceOf far)) where
   pub end-mono : endTime f o spans near ≤ endTime f o spans far
   unfolding endTime
   end-mono =

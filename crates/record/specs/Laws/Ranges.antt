@@ -5,11 +5,10 @@ use native.Mathlib.Omega.{arith}
 use mathlib.Core.Bool.{true, false}
 use mathlib.Core.List.{List}
 use lib.Dec.{T}
-use lib.IntN.{pos}
-use lib.Ieee.{Float, Format, binary32, binary64, ofInt, round, lt}
+use lib.Ieee.{Float, Format, binary32, binary64, lt}
 use lib.Ieee.Bits.{ofBits-fits}
 use borrow.Author.Tests.{not-false}
-use Rattle.model.specs.Limits.{mostEntries, mostBreaks}
+use Rattle.model.specs.Limits.{Range, mostEntries, mostBreaks, settingRange, multiplierRange}
 use Rattle.bits.specs.Field.{bits}
 use Rattle.bits.specs.Laws.Fields.{bits-lt}
 use Rattle.floats.specs.Range.{within, float}
@@ -35,31 +34,31 @@ use Rattle.record.specs.Laws.Accepted.{accepted-none, Parts, parts, head
 
 -- ---- a float field
 
-pattern : (f : Format) (lo hi : Float) (b : ℕ) → within f lo hi b ≡ true → Bounded f lo hi (float f b)
-pattern f lo hi b h = subst (Bounded f lo hi) (sym (float-within f b lo hi h)) (record { exact = ofBits-fits f b; range = subst T (sym h) tt })
+pattern : (f : Format) (range : Range) (b : ℕ) → within f (range .low) (range .high) b ≡ true → Bounded f range (float f b)
+pattern f range b h = subst (Bounded f range) (sym (float-within f b (range .low) (range .high) h)) (record { exact = ofBits-fits f b; inside = subst T (sym h) tt })
 
 module _ (s : List ℕ) where
-  field32 : (p n : ℕ) (lo hi : Float) → f32Refusal s p lo hi (suc n) ≡ 0 → Bounded binary32 lo hi (f32At s p)
+  field32 : (p n : ℕ) (range : Range) → f32Refusal s p (range .low) (range .high) (suc n) ≡ 0 → Bounded binary32 range (f32At s p)
   unfolding f32Refusal f32At
-  field32 p n lo hi h = pattern binary32 lo hi (bits s p 32) (not-false _ (gives-none _ n (then-none _ _ h .1)))
+  field32 p n range h = pattern binary32 range (bits s p 32) (not-false _ (gives-none _ n (then-none _ _ h .1)))
 
-  field64 : (p n : ℕ) (lo hi : Float) → f64Refusal s p lo hi (suc n) ≡ 0 → Bounded binary64 lo hi (f64At s p)
+  field64 : (p n : ℕ) (range : Range) → f64Refusal s p (range .low) (range .high) (suc n) ≡ 0 → Bounded binary64 range (f64At s p)
   unfolding f64Refusal f64At
-  field64 p n lo hi h = pattern binary64 lo hi (bits s p 64) (not-false _ (gives-none _ n (then-none _ _ h .1)))
+  field64 p n range h = pattern binary64 range (bits s p 64) (not-false _ (gives-none _ n (then-none _ _ h .1)))
 
   -- ---- settings and points
 
-  setting-field : (p : ℕ) → settingRefusal s p ≡ 0 → Bounded binary32 (ofInt binary32 (pos 0)) (ofInt binary32 (pos 10)) (f32At s p)
+  setting-field : (p : ℕ) → settingRefusal s p ≡ 0 → Bounded binary32 settingRange (f32At s p)
   unfolding settingRefusal
-  setting-field p h = field32 p 3 _ _ h
+  setting-field p h = field32 p 3 _ h
 
-  multiplier-field : multiplierRefusal s ≡ 0 → Bounded binary64 (round binary64 false 4 10) (round binary64 false 36 10) (f64At s At.multiplier)
+  multiplier-field : multiplierRefusal s ≡ 0 → Bounded binary64 multiplierRange (f64At s At.multiplier)
   unfolding multiplierRefusal
-  multiplier-field h = field64 At.multiplier 3 _ _ h
+  multiplier-field h = field64 At.multiplier 3 _ h
 
   time-field : (p : ℕ) → timeRefusal s p ≡ 0 → FitTime (f64At s p)
   unfolding timeRefusal
-  time-field p h = field64 p 4 _ _ h
+  time-field p h = field64 p 4 _ h
 
   rising-field : (p : ℕ) (before : Float) → risingRefusal s p before ≡ 0 → FitTime (f64At s p) × (lt before (f64At s p) ≡ true)
   unfolding risingRefusal
@@ -74,11 +73,11 @@ module _ (s : List ℕ) where
 
   timing-fit : (p : ℕ) (before : Float) → entryRefusal TimingPoints s p before ≡ 0 → FitTiming (readTimingPoint s p)
   unfolding entryRefusal readTimingPoint beatRefusal
-  timing-fit p before h = record { time = rising-field p before (then-none _ _ h .0) .0; beat = field64 (p + At.second) 4 _ _ (then-none _ _ h .1) }
+  timing-fit p before h = record { time = rising-field p before (then-none _ _ h .0) .0; beat = field64 (p + At.second) 4 _ (then-none _ _ h .1) }
 
   difficulty-fit : (p : ℕ) (before : Float) → entryRefusal DifficultyPoints s p before ≡ 0 → FitDifficulty (readDifficultyPoint s p)
   unfolding entryRefusal readDifficultyPoint velocityRefusal
-  difficulty-fit p before h = record { time = rising-field p before (then-none _ _ h .0) .0; velocity = field64 (p + At.second) 4 _ _ (then-none _ _ h .1) }
+  difficulty-fit p before h = record { time = rising-field p before (then-none _ _ h .0) .0; velocity = field64 (p + At.second) 4 _ (then-none _ _ h .1) }
 
   effect-fit : (p : ℕ) (before : Float) → entryRefusal EffectPoints s p before ≡ 0 → FitEffect (readEffectPoint s p)
   unfolding entryRefusal readEffectPoint
@@ -96,16 +95,16 @@ module _ (s : List ℕ) where
 
   span-field : (p : ℕ) → spanRefusal s p ≡ 0 → FitSpan (f64At s p)
   unfolding spanRefusal
-  span-field p h = field64 p 5 _ _ h
+  span-field p h = field64 p 5 _ h
 
   coordinate-field : (p : ℕ) → positionRefusal s p ≡ 0 → FitCoordinate (f32At s p)
   unfolding positionRefusal
-  coordinate-field p h = field32 p 5 _ _ h
+  coordinate-field p h = field32 p 5 _ h
 
   distance-fit : (p b : ℕ) → distanceRefusal s p b ≡ 0 → FitDistance (distanceBy s p b)
   unfolding distanceRefusal distanceBy
   distance-fit p zero h = tt
-  distance-fit p (suc b) h = field64 p 5 _ _ h
+  distance-fit p (suc b) h = field64 p 5 _ h
 
   node-fit : (p b : ℕ) → FitNode (nodeBy s p b)
   unfolding nodeBy

@@ -11,7 +11,9 @@ use lib.Ieee.{Float, lt}
 use borrow.Author.Tests.{ltb-true, ltb-false, le-ltb, eqb-true, not-false}
 use Rattle.bits.specs.Field.{bits, short}
 use Rattle.bits.specs.Laws.Fields.{bits-lt}
+use Rattle.model.specs.Limits.{Range, settingRange, multiplierRange, timeRange, beatRange, velocityRange, spanRange, coordinateRange, distanceRange}
 use Rattle.model.specs.Song.{Song}
+use Rattle.rules.specs.Numbers as Numbers
 use Rattle.rules.specs.Each.{Each}
 use Rattle.rules.specs.Laws.Each.{each-append}
 use Rattle.record.specs.declared.section.Section.{Section}
@@ -67,58 +69,58 @@ module _ (s : List ℕ) where
       }
 
   -- a field, and the row that follows
-  row-own : (p w o : ℕ) {b : ℕ} {fs : List Field} → Row b fs → Row (short s (p + w) gives 1 then (o then b)) (record { place = p; width = w; own = o } ∷ fs)
+  row-own : (p w o : ℕ) {b : ℕ} {fs : List Field} → Row b fs → Row (short s (p + w) gives Numbers.fieldNotWhole then (o then b)) (record { place = p; width = w; own = o } ∷ fs)
   unfolding fieldsRefusal
   row-own p w o {b} {fs} h =
       record {
         follows =
             λ r gs e.
-            then-assoc (short s (p + w) gives 1) (o then b) r
-            ∙ (ap (λ (x : ℕ). short s (p + w) gives 1 then x) (then-assoc o b r) ∙ ap (λ (x : ℕ). short s (p + w) gives 1 then (o then x)) (h .follows r gs e));
+            then-assoc (short s (p + w) gives Numbers.fieldNotWhole) (o then b) r
+            ∙ (ap (λ (x : ℕ). short s (p + w) gives Numbers.fieldNotWhole then x) (then-assoc o b r) ∙ ap (λ (x : ℕ). short s (p + w) gives Numbers.fieldNotWhole then (o then x)) (h .follows r gs e));
       }
 
-  row-f32 : (p : ℕ) (lo hi : Float) (n : ℕ) → Row (f32Refusal s p lo hi n) (field p 32 (out32 s p lo hi) n ∷ [])
+  row-f32 : (p : ℕ) (range : Range) (n : ℕ) → Row (f32Refusal s p (range .low) (range .high) n) (field p 32 (out32 s p range) n ∷ [])
   unfolding f32Refusal
-  row-f32 p lo hi n = subst (λ (x : ℕ). Row (short s (p + 32) gives 1 then x) (field p 32 (out32 s p lo hi) n ∷ [])) (then-zero (out32 s p lo hi gives n)) (row-own p 32 (out32 s p lo hi gives n) row-none)
+  row-f32 p range n = subst (λ (x : ℕ). Row (short s (p + 32) gives Numbers.fieldNotWhole then x) (field p 32 (out32 s p range) n ∷ [])) (then-zero (out32 s p range gives n)) (row-own p 32 (out32 s p range gives n) row-none)
 
-  row-f64 : (p : ℕ) (lo hi : Float) (n : ℕ) → Row (f64Refusal s p lo hi n) (field p 64 (out64 s p lo hi) n ∷ [])
+  row-f64 : (p : ℕ) (range : Range) (n : ℕ) → Row (f64Refusal s p (range .low) (range .high) n) (field p 64 (out64 s p range) n ∷ [])
   unfolding f64Refusal
-  row-f64 p lo hi n = subst (λ (x : ℕ). Row (short s (p + 64) gives 1 then x) (field p 64 (out64 s p lo hi) n ∷ [])) (then-zero (out64 s p lo hi gives n)) (row-own p 64 (out64 s p lo hi gives n) row-none)
+  row-f64 p range n = subst (λ (x : ℕ). Row (short s (p + 64) gives Numbers.fieldNotWhole then x) (field p 64 (out64 s p range) n ∷ [])) (then-zero (out64 s p range gives n)) (row-own p 64 (out64 s p range gives n) row-none)
 
   -- a float field with a second condition b, and the row that follows
-  row-two : (p : ℕ) (lo hi : Float) (n : ℕ) (b : Bool) {c : ℕ} {fs : List Field} → Row c fs
-      → Row (f64Refusal s p lo hi (suc n) then (b gives suc n then c)) (field p 64 (out64 s p lo hi || b) (suc n) ∷ fs)
+  row-two : (p : ℕ) (range : Range) (n : ℕ) (b : Bool) {c : ℕ} {fs : List Field} → Row c fs
+      → Row (f64Refusal s p (range .low) (range .high) (suc n) then (b gives suc n then c)) (field p 64 (out64 s p range || b) (suc n) ∷ fs)
   unfolding f64Refusal
-  row-two p lo hi n b {c} {fs} h =
-      subst (λ (x : ℕ). Row x (field p 64 (out64 s p lo hi || b) (suc n) ∷ fs))
-      (ap (λ (x : ℕ). short s (p + 64) gives 1 then x) (sym (own-two (out64 s p lo hi) b n c)) ∙ sym (then-assoc (short s (p + 64) gives 1) (out64 s p lo hi gives suc n) (b gives suc n then c)))
-      (row-own p 64 ((out64 s p lo hi || b) gives suc n) h)
+  row-two p range n b {c} {fs} h =
+      subst (λ (x : ℕ). Row x (field p 64 (out64 s p range || b) (suc n) ∷ fs))
+      (ap (λ (x : ℕ). short s (p + 64) gives Numbers.fieldNotWhole then x) (sym (own-two (out64 s p range) b n c)) ∙ sym (then-assoc (short s (p + 64) gives Numbers.fieldNotWhole) (out64 s p range gives suc n) (b gives suc n then c)))
+      (row-own p 64 ((out64 s p range || b) gives suc n) h)
 
   -- the same with nothing after it
-  row-last : (p : ℕ) (lo hi : Float) (n : ℕ) (b : Bool) → Row (f64Refusal s p lo hi (suc n) then b gives suc n) (field p 64 (out64 s p lo hi || b) (suc n) ∷ [])
-  row-last p lo hi n b =
-      subst (λ (x : ℕ). Row (f64Refusal s p lo hi (suc n) then x) (field p 64 (out64 s p lo hi || b) (suc n) ∷ [])) (then-zero (b gives suc n)) (row-two p lo hi n b row-none)
+  row-last : (p : ℕ) (range : Range) (n : ℕ) (b : Bool) → Row (f64Refusal s p (range .low) (range .high) (suc n) then b gives suc n) (field p 64 (out64 s p range || b) (suc n) ∷ [])
+  row-last p range n b =
+      subst (λ (x : ℕ). Row (f64Refusal s p (range .low) (range .high) (suc n) then x) (field p 64 (out64 s p range || b) (suc n) ∷ [])) (then-zero (b gives suc n)) (row-two p range n b row-none)
 
   -- a field with no condition of its own, which ends at bit e
-  row-plain : (p w e : ℕ) → p + w ≡ e → Row (short s e gives 1) (plain p w ∷ [])
+  row-plain : (p w e : ℕ) → p + w ≡ e → Row (short s e gives Numbers.fieldNotWhole) (plain p w ∷ [])
   unfolding _then_
   row-plain p w e h =
-      subst (λ (x : ℕ). Row x (plain p w ∷ [])) (then-zero (short s (p + w) gives 1) ∙ ap (λ (x : ℕ). short s x gives 1) h) (row-own p w 0 row-none)
+      subst (λ (x : ℕ). Row x (plain p w ∷ [])) (then-zero (short s (p + w) gives Numbers.fieldNotWhole) ∙ ap (λ (x : ℕ). short s x gives Numbers.fieldNotWhole) h) (row-own p w 0 row-none)
 
   -- one more before it
-  row-more : (p w e : ℕ) (fs : List Field) → p + w ≤ e → Row (short s e gives 1) fs → Row (short s e gives 1) (plain p w ∷ fs)
+  row-more : (p w e : ℕ) (fs : List Field) → p + w ≤ e → Row (short s e gives Numbers.fieldNotWhole) fs → Row (short s e gives Numbers.fieldNotWhole) (plain p w ∷ fs)
   unfolding fieldsRefusal _then_
   row-more p w e fs h k =
       record {
         follows =
             λ r gs x.
             ap (λ (a : ℕ). a then r) (sym (whole-once s (p + w) e h))
-            ∙ (then-assoc (short s (p + w) gives 1) (short s e gives 1) r ∙ ap (λ (a : ℕ). short s (p + w) gives 1 then a) (k .follows r gs x));
+            ∙ (then-assoc (short s (p + w) gives Numbers.fieldNotWhole) (short s e gives Numbers.fieldNotWhole) r ∙ ap (λ (a : ℕ). short s (p + w) gives Numbers.fieldNotWhole then a) (k .follows r gs x));
       }
 
   -- ---- the header
 
-  row-counts : Row (short s At.breaks gives 1) (plain At.breakCount 8 ∷ plain At.timingCount 12 ∷ plain At.difficultyCount 12 ∷ plain At.effectCount 12 ∷ plain At.objectCount 12 ∷ [])
+  row-counts : Row (short s At.breaks gives Numbers.fieldNotWhole) (plain At.breakCount 8 ∷ plain At.timingCount 12 ∷ plain At.difficultyCount 12 ∷ plain At.effectCount 12 ∷ plain At.objectCount 12 ∷ [])
   row-counts =
       row-more At.breakCount 8 At.breaks _ (lit≤ tt) (row-more At.timingCount 12 At.breaks _ (lit≤ tt) (row-more At.difficultyCount 12 At.breaks _ (lit≤ tt) (row-more At.effectCount 12 At.breaks _ (lit≤ tt) (row-plain At.objectCount 12 At.breaks refl))))
 
@@ -127,28 +129,28 @@ module _ (s : List ℕ) where
   row-header =
       row-own At.version 4 (not (eqb (bits s At.version 4) 1) gives 2)
       (row-own At.keys 4 (ltb 9 (bits s At.keys 4) gives 3)
-      (row-cat (row-f32 At.hp _ _ 4) (row-cat (row-f32 At.cs _ _ 4) (row-cat (row-f32 At.od _ _ 4) (row-cat (row-f32 At.ar _ _ 4) (row-cat (row-f64 At.multiplier _ _ 4) row-counts))))))
+      (row-cat (row-f32 At.hp settingRange Numbers.setting) (row-cat (row-f32 At.cs settingRange Numbers.setting) (row-cat (row-f32 At.od settingRange Numbers.setting) (row-cat (row-f32 At.ar settingRange Numbers.setting) (row-cat (row-f64 At.multiplier multiplierRange Numbers.setting) row-counts))))))
 
   -- ---- breaks and points
 
   row-entry : (k : Section) (p : ℕ) (before : Float) → Row (entryRefusal k s p before) (entryFields k s p before)
   unfolding entryRefusal entryFields timeRefusal risingRefusal beatRefusal velocityRefusal
-  row-entry Breaks p before = row-cat (row-f64 p _ _ 5) (row-last (p + At.second) _ _ 4 (lt (f64At s (p + At.second)) (f64At s p)))
-  row-entry TimingPoints p before = row-cat (row-last p _ _ 4 (not (lt before (f64At s p)))) (row-f64 (p + At.second) _ _ 5)
-  row-entry DifficultyPoints p before = row-cat (row-last p _ _ 4 (not (lt before (f64At s p)))) (row-f64 (p + At.second) _ _ 5)
-  row-entry EffectPoints p before = row-cat (row-last p _ _ 4 (not (lt before (f64At s p)))) (row-plain (p + At.second) 1 (p + At.effectEntry) (omega arith))
+  row-entry Breaks p before = row-cat (row-f64 p timeRange Numbers.breakOrPoint) (row-last (p + At.second) timeRange 4 (lt (f64At s (p + At.second)) (f64At s p)))
+  row-entry TimingPoints p before = row-cat (row-last p timeRange 4 (not (lt before (f64At s p)))) (row-f64 (p + At.second) beatRange Numbers.breakOrPoint)
+  row-entry DifficultyPoints p before = row-cat (row-last p timeRange 4 (not (lt before (f64At s p)))) (row-f64 (p + At.second) velocityRange Numbers.breakOrPoint)
+  row-entry EffectPoints p before = row-cat (row-last p timeRange 4 (not (lt before (f64At s p)))) (row-plain (p + At.second) 1 (p + At.effectEntry) (omega arith))
 
   -- ---- objects
 
   row-distance : (p b : ℕ) → Row (distanceRefusal s p b) (distanceFields s p b)
   unfolding distanceRefusal
   row-distance p zero = row-none
-  row-distance p (suc b) = row-f64 p _ _ 6
+  row-distance p (suc b) = row-f64 p distanceRange Numbers.object
 
-  row-node : (m b : ℕ) → b ≤ 1 → Row (short s (m + 1) gives 1 then short s (m + 1 + 4 * b) gives 1) (plain m 1 ∷ nodeFields (m + 1) b)
+  row-node : (m b : ℕ) → b ≤ 1 → Row (short s (m + 1) gives Numbers.fieldNotWhole then short s (m + 1 + 4 * b) gives Numbers.fieldNotWhole) (plain m 1 ∷ nodeFields (m + 1) b)
   row-node m zero h =
       let e : m + 1 + 4 * 0 ≡ m + 1 = omega arith in
-      subst (λ (x : ℕ). Row x (plain m 1 ∷ [])) (sym (ap (λ (x : ℕ). short s (m + 1) gives 1 then short s x gives 1) e ∙ whole-once s (m + 1) (m + 1) (omega arith))) (row-plain m 1 (m + 1) refl)
+      subst (λ (x : ℕ). Row x (plain m 1 ∷ [])) (sym (ap (λ (x : ℕ). short s (m + 1) gives Numbers.fieldNotWhole then short s x gives Numbers.fieldNotWhole) e ∙ whole-once s (m + 1) (m + 1) (omega arith))) (row-plain m 1 (m + 1) refl)
   row-node m (suc zero) h = row-cat (row-plain m 1 (m + 1) refl) (row-plain (m + 1) 4 (m + 1 + 4 * 1) (omega arith))
   row-node m (suc (suc b)) h = absurd (omega arith)
 
@@ -165,13 +167,13 @@ module _ (s : List ℕ) where
   unfolding kindRefusal kindFields spanRefusal
   row-kind q zero = row-none
   row-kind q (suc zero) = row-slider q
-  row-kind q (suc (suc k)) = row-f64 q _ _ 6
+  row-kind q (suc (suc k)) = row-f64 q spanRange Numbers.object
 
   row-object : (p : ℕ) (before : Float) → Row (objectRefusal s p before) (objectFields s p before)
   unfolding objectRefusal objectFields positionRefusal spanRefusal
   row-object p before =
       row-cat (row-more p 2 (p + At.x) (plain (p + At.sound) 4 ∷ []) (omega arith) (row-plain (p + At.sound) 4 (p + At.x) (omega arith)))
-      (row-cat (row-f32 (p + At.x) _ _ 6) (row-cat (row-f32 (p + At.y) _ _ 6) (row-two (p + At.start) _ _ 5 (lt (startAt s p) before) (row-kind (p + At.added) (bits s p 2)))))
+      (row-cat (row-f32 (p + At.x) coordinateRange Numbers.object) (row-cat (row-f32 (p + At.y) coordinateRange Numbers.object) (row-two (p + At.start) spanRange 5 (lt (startAt s p) before) (row-kind (p + At.added) (bits s p 2)))))
 
   -- ---- lists
 
@@ -236,9 +238,9 @@ not-zero : (s : List ℕ) (n : ℕ) → parse s ≡ refused n → n ≡ 0 → �
 unfolding parse
 not-zero s n e = by-zero (recordRefusal s) n (songOf s) e
 
-seven : (s : List ℕ) (n : ℕ) → fillRefusal s (recordEnd s) ≡ suc n → suc n ≡ 7
+seven : (s : List ℕ) (n : ℕ) → fillRefusal s (recordEnd s) ≡ suc n → suc n ≡ Numbers.filling
 unfolding fillRefusal
-seven s n h = sym (gives-some _ 7 n h .1)
+seven s n h = sym (gives-some _ Numbers.filling n h .1)
 
 module _ (s : List ℕ) where
   cut : (e : ℕ) → short s e ≡ true → 8 * length s < e
@@ -250,7 +252,7 @@ module _ (s : List ℕ) where
   whole e h = ltb-false (8 * length s) e h
 
   first-here : (f : Field) (fs : List Field) (n : ℕ)
-      → ((8 * length s < f .place + f .width) × (n ≡ 1)) ⊎ ((f .place + f .width ≤ 8 * length s) × (f .own ≡ n)) → First s (f ∷ fs) n
+      → ((8 * length s < f .place + f .width) × (n ≡ Numbers.fieldNotWhole)) ⊎ ((f .place + f .width ≤ 8 * length s) × (f .own ≡ n)) → First s (f ∷ fs) n
   first-here f fs n h = record { before = []; at = f; after = fs; place = refl; passed = tt; cause = h }
 
   first-later : (f : Field) (fs : List Field) (n : ℕ) → Passes s f → First s fs n → First s (f ∷ fs) n
@@ -260,13 +262,13 @@ module _ (s : List ℕ) where
   first-field : (fs : List Field) (n : ℕ) → fieldsRefusal s fs ≡ suc n → First s fs (suc n)
   unfolding fieldsRefusal
   first-field [] n h = absurd (omega arith)
-  first-field (f ∷ fs) n h = by (row-some (short s (f .place + f .width) gives 1) (f .own then fieldsRefusal s fs) n h) (first-field fs n)
+  first-field (f ∷ fs) n h = by (row-some (short s (f .place + f .width) gives Numbers.fieldNotWhole) (f .own then fieldsRefusal s fs) n h) (first-field fs n)
     where
       own : f .place + f .width ≤ 8 * length s → (f .own ≡ suc n) ⊎ ((f .own ≡ 0) × (fieldsRefusal s fs ≡ suc n)) → (fieldsRefusal s fs ≡ suc n → First s fs (suc n)) → First s (f ∷ fs) (suc n)
       own w (inl e) go = first-here f fs (suc n) (inr (w, e))
       own w (inr e) go = first-later f fs (suc n) (record { whole = w; good = e .0 }) (go (e .1))
 
-      by : ((short s (f .place + f .width) gives 1) ≡ suc n) ⊎ (((short s (f .place + f .width) gives 1) ≡ 0) × ((f .own then fieldsRefusal s fs) ≡ suc n)) → (fieldsRefusal s fs ≡ suc n → First s fs (suc n)) → First s (f ∷ fs) (suc n)
+      by : ((short s (f .place + f .width) gives Numbers.fieldNotWhole) ≡ suc n) ⊎ (((short s (f .place + f .width) gives Numbers.fieldNotWhole) ≡ 0) × ((f .own then fieldsRefusal s fs) ≡ suc n)) → (fieldsRefusal s fs ≡ suc n → First s fs (suc n)) → First s (f ∷ fs) (suc n)
       by (inl e) go =
           let c = gives-some (short s (f .place + f .width)) 1 n e in
           first-here f fs (suc n) (inl (cut (f .place + f .width) (c .0), sym (c .1)))
@@ -301,17 +303,17 @@ module _ (s : List ℕ) where
   -- ---- refused and accepted records
 
   -- Where a number is given: it is that of the first field that does not pass; or all pass, the filling is not zero bits or bytes follow, and it is 7.
-  pub refused-first : (n : ℕ) → parse s ≡ refused n → First s (fieldsOf s) n ⊎ (Each (Passes s) (fieldsOf s) × (Fills s (recordEnd s) → ⊥) × (n ≡ 7))
+  pub refused-first : (n : ℕ) → parse s ≡ refused n → First s (fieldsOf s) n ⊎ (Each (Passes s) (fieldsOf s) × (Fills s (recordEnd s) → ⊥) × (n ≡ Numbers.filling))
   refused-first n e = by n (sym (record-fields s) ∙ refused-number s n e) (not-zero s n e)
     where
-      last : (n : ℕ) → fieldsRefusal s (fieldsOf s) ≡ 0 → fillRefusal s (recordEnd s) ≡ suc n → First s (fieldsOf s) (suc n) ⊎ (Each (Passes s) (fieldsOf s) × (Fills s (recordEnd s) → ⊥) × (suc n ≡ 7))
+      last : (n : ℕ) → fieldsRefusal s (fieldsOf s) ≡ 0 → fillRefusal s (recordEnd s) ≡ suc n → First s (fieldsOf s) (suc n) ⊎ (Each (Passes s) (fieldsOf s) × (Fills s (recordEnd s) → ⊥) × (suc n ≡ Numbers.filling))
       last n h k = inr (all-pass (fieldsOf s) h, (λ f. let z = filled (recordEnd s) f in omega arith), seven s n k)
 
-      by : (n : ℕ) → (fieldsRefusal s (fieldsOf s) then fillRefusal s (recordEnd s)) ≡ n → (n ≡ 0 → ⊥) → First s (fieldsOf s) n ⊎ (Each (Passes s) (fieldsOf s) × (Fills s (recordEnd s) → ⊥) × (n ≡ 7))
+      by : (n : ℕ) → (fieldsRefusal s (fieldsOf s) then fillRefusal s (recordEnd s)) ≡ n → (n ≡ 0 → ⊥) → First s (fieldsOf s) n ⊎ (Each (Passes s) (fieldsOf s) × (Fills s (recordEnd s) → ⊥) × (n ≡ Numbers.filling))
       by zero h x = absurd (x refl)
       by (suc n) h x = part (row-some (fieldsRefusal s (fieldsOf s)) (fillRefusal s (recordEnd s)) n h)
         where
-          part : (fieldsRefusal s (fieldsOf s) ≡ suc n) ⊎ ((fieldsRefusal s (fieldsOf s) ≡ 0) × (fillRefusal s (recordEnd s) ≡ suc n)) → First s (fieldsOf s) (suc n) ⊎ (Each (Passes s) (fieldsOf s) × (Fills s (recordEnd s) → ⊥) × (suc n ≡ 7))
+          part : (fieldsRefusal s (fieldsOf s) ≡ suc n) ⊎ ((fieldsRefusal s (fieldsOf s) ≡ 0) × (fillRefusal s (recordEnd s) ≡ suc n)) → First s (fieldsOf s) (suc n) ⊎ (Each (Passes s) (fieldsOf s) × (Fills s (recordEnd s) → ⊥) × (suc n ≡ Numbers.filling))
           part (inl k) = inl (first-field (fieldsOf s) n k)
           part (inr k) = last n (k .0) (k .1)
 
@@ -346,40 +348,40 @@ each-entries P fields next key h p before (suc n) = each-append P (fields p befo
 
 module _ (s : List ℕ) where
   -- version 2, key choice 3, settings and multiplier 4, and none for the counts
-  pub header-gives : Each (λ (f : Field). Gives 2 f ⊎ (Gives 3 f ⊎ Gives 4 f)) (headerFields s)
+  pub header-gives : Each (λ (f : Field). Gives Numbers.version f ⊎ (Gives Numbers.keyChoice f ⊎ Gives Numbers.setting f)) (headerFields s)
   unfolding headerFields
-  header-gives = (inl (gives-or _ 2), (inr (inl (gives-or _ 3)), (inr (inr (gives-or _ 4)), (inr (inr (gives-or _ 4)), (inr (inr (gives-or _ 4)), (inr (inr (gives-or _ 4)), (inr (inr (gives-or _ 4)), (inl (inl refl), (inl (inl refl), (inl (inl refl), (inl (inl refl), (inl (inl refl), tt))))))))))))
+  header-gives = (inl (gives-or _ Numbers.version), (inr (inl (gives-or _ Numbers.keyChoice)), (inr (inr (gives-or _ Numbers.setting)), (inr (inr (gives-or _ Numbers.setting)), (inr (inr (gives-or _ Numbers.setting)), (inr (inr (gives-or _ Numbers.setting)), (inr (inr (gives-or _ Numbers.setting)), (inl (inl refl), (inl (inl refl), (inl (inl refl), (inl (inl refl), (inl (inl refl), tt))))))))))))
 
-  entry-gives : (k : Section) (p : ℕ) (before : Float) → Each (Gives 5) (entryFields k s p before)
+  entry-gives : (k : Section) (p : ℕ) (before : Float) → Each (Gives Numbers.breakOrPoint) (entryFields k s p before)
   unfolding entryFields
-  entry-gives Breaks p before = (gives-or _ 5, (gives-or _ 5, tt))
-  entry-gives TimingPoints p before = (gives-or _ 5, (gives-or _ 5, tt))
-  entry-gives DifficultyPoints p before = (gives-or _ 5, (gives-or _ 5, tt))
-  entry-gives EffectPoints p before = (gives-or _ 5, (inl refl, tt))
+  entry-gives Breaks p before = (gives-or _ Numbers.breakOrPoint, (gives-or _ Numbers.breakOrPoint, tt))
+  entry-gives TimingPoints p before = (gives-or _ Numbers.breakOrPoint, (gives-or _ Numbers.breakOrPoint, tt))
+  entry-gives DifficultyPoints p before = (gives-or _ Numbers.breakOrPoint, (gives-or _ Numbers.breakOrPoint, tt))
+  entry-gives EffectPoints p before = (gives-or _ Numbers.breakOrPoint, (inl refl, tt))
 
-  pub section-gives : (k : Section) (p n : ℕ) → Each (Gives 5) (sectionFields k s p n)
+  pub section-gives : (k : Section) (p n : ℕ) → Each (Gives Numbers.breakOrPoint) (sectionFields k s p n)
   unfolding sectionFields
-  section-gives k p n = each-entries (Gives 5) (entryFields k s) _ _ (entry-gives k) p _ n
+  section-gives k p n = each-entries (Gives Numbers.breakOrPoint) (entryFields k s) _ _ (entry-gives k) p _ n
 
-  distance-gives : (p b : ℕ) → Each (Gives 6) (distanceFields s p b)
+  distance-gives : (p b : ℕ) → Each (Gives Numbers.object) (distanceFields s p b)
   distance-gives p zero = tt
-  distance-gives p (suc b) = (gives-or _ 6, tt)
+  distance-gives p (suc b) = (gives-or _ Numbers.object, tt)
 
-  node-gives : (p b : ℕ) → Each (Gives 6) (nodeFields p b)
+  node-gives : (p b : ℕ) → Each (Gives Numbers.object) (nodeFields p b)
   node-gives p zero = tt
   node-gives p (suc b) = (inl refl, tt)
 
-  kind-gives : (q k : ℕ) → Each (Gives 6) (kindFields s q k)
+  kind-gives : (q k : ℕ) → Each (Gives Numbers.object) (kindFields s q k)
   unfolding kindFields
   kind-gives q zero = tt
   kind-gives q (suc zero) =
-      (inl refl, (inl refl, each-append (Gives 6) (distanceFields s (q + At.distance) (bits s (q + At.isGiven) 1)) _ (distance-gives (q + At.distance) (bits s (q + At.isGiven) 1)) (inl refl, node-gives (nodeBit s q + 1) (bits s (nodeBit s q) 1))))
-  kind-gives q (suc (suc k)) = (gives-or _ 6, tt)
+      (inl refl, (inl refl, each-append (Gives Numbers.object) (distanceFields s (q + At.distance) (bits s (q + At.isGiven) 1)) _ (distance-gives (q + At.distance) (bits s (q + At.isGiven) 1)) (inl refl, node-gives (nodeBit s q + 1) (bits s (nodeBit s q) 1))))
+  kind-gives q (suc (suc k)) = (gives-or _ Numbers.object, tt)
 
-  object-gives : (p : ℕ) (before : Float) → Each (Gives 6) (objectFields s p before)
+  object-gives : (p : ℕ) (before : Float) → Each (Gives Numbers.object) (objectFields s p before)
   unfolding objectFields
-  object-gives p before = (inl refl, (inl refl, (gives-or _ 6, (gives-or _ 6, (gives-or _ 6, kind-gives (p + At.added) (bits s p 2))))))
+  object-gives p before = (inl refl, (inl refl, (gives-or _ Numbers.object, (gives-or _ Numbers.object, (gives-or _ Numbers.object, kind-gives (p + At.added) (bits s p 2))))))
 
-  pub objects-gives : (p n : ℕ) → Each (Gives 6) (objectsFields s p n)
+  pub objects-gives : (p n : ℕ) → Each (Gives Numbers.object) (objectsFields s p n)
   unfolding objectsFields
-  objects-gives p n = each-entries (Gives 6) (objectFields s) _ _ object-gives p _ n
+  objects-gives p n = each-entries (Gives Numbers.object) (objectFields s) _ _ object-gives p _ n

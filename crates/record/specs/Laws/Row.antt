@@ -8,6 +8,7 @@ use mathlib.Core.List.{List}
 use lib.Dec.{ltb}
 use lib.ListN.{length}
 use borrow.Author.Tests.{ltb-true, lt-ltb}
+use Rattle.rules.specs.Numbers as Numbers
 use Rattle.bits.specs.Field.{short}
 use Rattle.record.specs.Refusal.{_gives_, _then_}
 
@@ -39,10 +40,10 @@ then-assoc zero b c = refl
 then-assoc (suc a) b c = refl
 
 -- Of two fields in a row that can only be not whole, the end of the second alone gives the same number.
-pub whole-once : (s : List ℕ) (p q : ℕ) → p ≤ q → (short s p gives 1 then short s q gives 1) ≡ (short s q gives 1)
+pub whole-once : (s : List ℕ) (p q : ℕ) → p ≤ q → (short s p gives Numbers.fieldNotWhole then short s q gives Numbers.fieldNotWhole) ≡ (short s q gives Numbers.fieldNotWhole)
 unfolding short _gives_ _then_
 whole-once s p q h = by (ltb (8 * length s) p) refl
   where
-    by : (t : Bool) → ltb (8 * length s) p ≡ t → (t gives 1 then ltb (8 * length s) q gives 1) ≡ (ltb (8 * length s) q gives 1)
+    by : (t : Bool) → ltb (8 * length s) p ≡ t → (t gives Numbers.fieldNotWhole then ltb (8 * length s) q gives Numbers.fieldNotWhole) ≡ (ltb (8 * length s) q gives Numbers.fieldNotWhole)
     by true e = rw (lt-ltb (8 * length s) q (omega (arith, ltb-true (8 * length s) p e)))
     by false e = refl

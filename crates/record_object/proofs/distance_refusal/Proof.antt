@@ -1,6 +1,6 @@
 -- `record_object::distance_refusal` meets its contract: the flag picks the case.
 -- Assumes nothing.
-use lib.Ieee.{neg, ofInt, round, size, span, climb, units, odd, ofBits, ofFields}
+use lib.Ieee.{neg, round, size, span, climb, units, odd, ofBits, ofFields}
 use Rattle.record.specs.Object.{distanceRefusal}
 use Rattle.record_object.proofs.Objects.{distance-refused}
 use borrow.Author.Needs.{needs}
@@ -15,7 +15,7 @@ unfolding distanceRefusal
 returns c = rw (c .if1 .taken)
 
 returns-2 : tie.Need-returns-2
-unfolding distanceRefusal neg ofInt round size span climb units odd ofBits ofFields
+unfolding distanceRefusal neg round size span climb units odd ofBits ofFields
 returns-2 c = rw (distance-refused _ _ _ (c .before .if1 .left)) (c .f64-refusal .ensures)
 
 pub distance-refusal-spec : {M : Type 1} → statement M

@@ -3,7 +3,7 @@
 use mathlib.Core.Path.{_≡_, refl, sym, _∙_}
 use Prim.Native.Nat.{_+_, _*_, _≤_}
 use native.Mathlib.Omega.{arith}
-use lib.Ieee.{neg, ofInt, round, size, span, climb, units, odd, ofBits, ofFields}
+use lib.Ieee.{neg, round, size, span, climb, units, odd, ofBits, ofFields}
 use Rattle.record.specs.Layout as At
 use Rattle.record.specs.Refusal.{f64At, entriesRefusal}
 use Rattle.record.specs.Section.{widthOf, entryEnd, entryRefusal, sectionRefusal, noTime}
@@ -24,7 +24,7 @@ width-of-requires : tie.Need-width-of-requires Inv-loop μ-loop
 width-of-requires c κs = tt
 
 loop-holds : tie.Need-loop-holds Inv-loop μ-loop
-unfolding sectionRefusal noTime neg ofInt round size span climb units odd ofBits ofFields
+unfolding sectionRefusal noTime neg round size span climb units odd ofBits ofFields
 loop-holds c = (omega arith, rw (c .width-of .ensures) (width-le (c .before .before .args .section)), c .width-of .ensures, refl)
 
 entry-refusal-requires : tie.Need-entry-refusal-requires Inv-loop μ-loop
