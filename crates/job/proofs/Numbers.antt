@@ -1,23 +1,26 @@
 -- A refused record has a number from 1 to 7. Assumes nothing.
-use mathlib.Core.Path.{_≡_}
-use Prim.Native.Nat.{ℕ, zero, suc, _+_, _≤_}
+use mathlib.Core.Path.{_≡_, sym, subst}
+use mathlib.Core.Logic.{_⊎_, inl, inr}
+use Prim.Native.Nat.{ℕ, zero, suc, _≤_}
 use native.Mathlib.Omega.{arith}
 use mathlib.Core.Bool.{Bool, true, false}
-use mathlib.Core.List.{List}
+use mathlib.Core.List.{List, [], _∷_}
 use lib.Dec.{lit≤}
-use lib.Ieee.{Float}
-use Rattle.bits.specs.Field.{bits, short}
+use Rattle.rules.specs.Each.{Each}
+use Rattle.rules.specs.Laws.Each.{each-map}
+use Rattle.rules.specs.Numbers as Numbers
 use Rattle.record.specs.declared.section.Section.{Section}
 use Rattle.record.specs.declared.section.Section.the-variants.{Breaks, TimingPoints, DifficultyPoints, EffectPoints}
+use Rattle.record.specs.Refusal.{_gives_, _then_, Field, fieldsRefusal}
 use Rattle.record.specs.Layout as At
-use Rattle.record.specs.Refusal.{_gives_, _then_, f32Refusal, f64Refusal, entriesRefusal}
-use Rattle.record.specs.Header.{countsOf, settingRefusal, multiplierRefusal, headerRefusal}
-use Rattle.record.specs.Section.{timeRefusal, beatRefusal, velocityRefusal, risingRefusal, entryRefusal, sectionRefusal}
-use Rattle.record.specs.Object.{nodeBit, sliderEnd, spanRefusal, distanceRefusal, positionRefusal, sliderRefusal, kindRefusal, objectRefusal, objectsRefusal}
-use Rattle.record.specs.Record.{placesOf, listsRefusal, fillRefusal, recordRefusal, recordEnd, songOf, refused, parsedBy, parse}
-use Rattle.record.specs.Record.{accepted}
+use Rattle.record.specs.Header.{countsOf, headerFields, headerRefusal}
+use Rattle.record.specs.Section.{sectionRefusal}
+use Rattle.record.specs.Object.{objectsRefusal}
+use Rattle.record.specs.Record.{placesOf, listsRefusal, fillRefusal, recordRefusal, recordEnd, songOf, accepted, refused, parsedBy, parse}
+use Rattle.record.specs.Fields.{sectionFields, objectsFields}
 use Rattle.record.specs.Laws.Accepted as Read
 use Rattle.record.specs.Laws.Ranges.{fit-song}
+use Rattle.record.specs.Laws.Refusals.{Gives, header-gives, section-gives, objects-gives, section-is, objects-are}
 use Rattle.model.specs.Song.{Song}
 
 -- a row's number is one of its conditions'
@@ -31,100 +34,49 @@ unfolding _gives_
 one true n h = h
 one false n h = omega arith
 
-list : (entry : ℕ → Float → ℕ) (next : ℕ → ℕ) (key : ℕ → Float) → ((p : ℕ) (before : Float) → entry p before ≤ 7)
-    → (p : ℕ) (before : Float) (n : ℕ) → entriesRefusal entry next key p before n ≤ 7
-unfolding entriesRefusal
-list entry next key h p before zero = omega arith
-list entry next key h p before (suc n) = row _ _ (h p before) (list entry next key h (next p) (key p) n)
+-- a field whose number is at most 7
+abbrev Small : Field → Type 0
+Small f = f .own ≤ 7
+
+small : (n : ℕ) (f : Field) → n ≤ 7 → Gives n f → Small f
+small n f h (inl e) = omega (arith, e)
+small n f h (inr e) = omega (arith, h, e)
+
+small-header : (f : Field) → Gives Numbers.version f ⊎ (Gives Numbers.keyChoice f ⊎ Gives Numbers.setting f) → Small f
+small-header f (inl g) = small Numbers.version f (lit≤ tt) g
+small-header f (inr (inl g)) = small Numbers.keyChoice f (lit≤ tt) g
+small-header f (inr (inr g)) = small Numbers.setting f (lit≤ tt) g
 
 module _ (s : List ℕ) where
-  of64 : (p : ℕ) (lo hi : Float) (n : ℕ) → n ≤ 7 → f64Refusal s p lo hi n ≤ 7
-  unfolding f64Refusal
-  of64 p lo hi n h = row _ _ (one _ 1 (lit≤ tt)) (one _ n h)
-
-  of32 : (p : ℕ) (lo hi : Float) (n : ℕ) → n ≤ 7 → f32Refusal s p lo hi n ≤ 7
-  unfolding f32Refusal
-  of32 p lo hi n h = row _ _ (one _ 1 (lit≤ tt)) (one _ n h)
-
-  a-setting : (p : ℕ) → settingRefusal s p ≤ 7
-  unfolding settingRefusal
-  a-setting p = of32 p _ _ 4 (lit≤ tt)
+  fields : (fs : List Field) → Each Small fs → fieldsRefusal s fs ≤ 7
+  unfolding fieldsRefusal
+  fields [] h = omega arith
+  fields (f ∷ fs) h = row _ _ (row _ _ (one _ Numbers.fieldNotWhole (lit≤ tt)) (h .0)) (fields fs (h .1))
 
   header : headerRefusal s ≤ 7
-  unfolding headerRefusal multiplierRefusal
-  header =
-      row _ _ (one _ 1 (lit≤ tt)) (row _ _ (one _ 2 (lit≤ tt)) (row _ _ (one _ 1 (lit≤ tt)) (row _ _ (one _ 3 (lit≤ tt))
-      (row _ _ (a-setting 8) (row _ _ (a-setting 40) (row _ _ (a-setting 72) (row _ _ (a-setting 104) (row _ _ (of64 136 _ _ 4 (lit≤ tt)) (one _ 1 (lit≤ tt))))))))))
-
-  time : (p : ℕ) → timeRefusal s p ≤ 7
-  unfolding timeRefusal
-  time p = of64 p _ _ 5 (lit≤ tt)
-
-  rising : (p : ℕ) (before : Float) → risingRefusal s p before ≤ 7
-  unfolding risingRefusal
-  rising p before = row _ _ (time p) (one _ 5 (lit≤ tt))
-
-  entry : (k : Section) (p : ℕ) (before : Float) → entryRefusal k s p before ≤ 7
-  unfolding entryRefusal beatRefusal velocityRefusal
-  entry Breaks p before = row _ _ (time p) (row _ _ (time (p + 64)) (one _ 5 (lit≤ tt)))
-  entry TimingPoints p before = row _ _ (rising p before) (of64 (p + 64) _ _ 5 (lit≤ tt))
-  entry DifficultyPoints p before = row _ _ (rising p before) (of64 (p + 64) _ _ 5 (lit≤ tt))
-  entry EffectPoints p before = row _ _ (rising p before) (one _ 1 (lit≤ tt))
+  unfolding headerRefusal
+  header = fields (headerFields s) (each-map _ Small small-header (headerFields s) (header-gives s))
 
   section : (k : Section) (p n : ℕ) → sectionRefusal k s p n ≤ 7
-  unfolding sectionRefusal
-  section k p n = list _ _ _ (entry k) p _ n
+  section k p n =
+      subst (λ (x : ℕ). x ≤ 7) (sym (section-is s k p n))
+      (fields (sectionFields k s p n) (each-map (Gives Numbers.breakOrPoint) Small (λ f g. small Numbers.breakOrPoint f (lit≤ tt) g) (sectionFields k s p n) (section-gives s k p n)))
 
-  span : (p : ℕ) → spanRefusal s p ≤ 7
-  unfolding spanRefusal
-  span p = of64 p _ _ 6 (lit≤ tt)
-
-  position : (p : ℕ) → positionRefusal s p ≤ 7
-  unfolding positionRefusal
-  position p = of32 p _ _ 6 (lit≤ tt)
-
-  distance : (p b : ℕ) → distanceRefusal s p b ≤ 7
-  unfolding distanceRefusal
-  distance p zero = omega arith
-  distance p (suc b) = of64 p _ _ 6 (lit≤ tt)
-
-  slider : (q : ℕ) → sliderRefusal s q ≤ 7
-  unfolding sliderRefusal
-  slider q = row _ _ (one _ 1 (lit≤ tt))
-      (row (distanceRefusal s (q + 11) (bits s (q + 10) 1)) _ (distance (q + 11) (bits s (q + 10) 1)) (row (short s (nodeBit s q + 1) gives 1) (short s (sliderEnd s q) gives 1) (one _ 1 (lit≤ tt)) (one _ 1 (lit≤ tt))))
-
-  kind : (q k : ℕ) → kindRefusal s q k ≤ 7
-  unfolding kindRefusal
-  kind q zero = omega arith
-  kind q (suc zero) = slider q
-  kind q (suc (suc k)) = span q
-
-  an-object : (p : ℕ) (before : Float) → objectRefusal s p before ≤ 7
-  unfolding objectRefusal
-  an-object p before =
-      row _ _ (one _ 1 (lit≤ tt)) (row _ _ (position _) (row _ _ (position _) (row _ _ (span _) (row _ _ (one _ 6 (lit≤ tt)) (kind (p + 134) (bits s p 2))))))
+  all-objects : (p n : ℕ) → objectsRefusal s p n ≤ 7
+  all-objects p n =
+      subst (λ (x : ℕ). x ≤ 7) (sym (objects-are s p n))
+      (fields (objectsFields s p n) (each-map (Gives Numbers.object) Small (λ f g. small Numbers.object f (lit≤ tt) g) (objectsFields s p n) (objects-gives s p n)))
 
   fill : (p : ℕ) → fillRefusal s p ≤ 7
   unfolding fillRefusal
-  fill p = one _ 7 (lit≤ tt)
-
-  all-objects : (p n : ℕ) → objectsRefusal s p n ≤ 7
-  unfolding objectsRefusal
-  all-objects p n = list (objectRefusal s) _ _ an-object p _ n
-
-  lists : listsRefusal s (countsOf s) ≤ 7
-  unfolding listsRefusal
-  lists =
-      let n = countsOf s in
-      let at = placesOf n in
-      row _ _ (section Breaks At.breaks (n .breaks)) (row _ _ (section TimingPoints (at .timing) (n .timing))
-      (row _ _ (section DifficultyPoints (at .difficulty) (n .difficulty)) (section EffectPoints (at .effect) (n .effect))))
+  fill p = one _ Numbers.filling (lit≤ tt)
 
   record-number : recordRefusal s ≤ 7
-  unfolding recordRefusal
+  unfolding recordRefusal listsRefusal
   record-number =
       let n = countsOf s in
       let at = placesOf n in
+      let lists = row _ _ (section Breaks At.breaks (n .breaks)) (row _ _ (section TimingPoints (at .timing) (n .timing)) (row _ _ (section DifficultyPoints (at .difficulty) (n .difficulty)) (section EffectPoints (at .effect) (n .effect)))) in
       row _ _ header (row _ _ lists (row _ _ (all-objects (at .objects) (n .objects)) (fill (recordEnd s))))
 
 some-number : (m n : ℕ) (song : Song) → m ≤ 7 → parsedBy m song ≡ refused n → (1 ≤ n) × (n ≤ 7)

@@ -1,42 +1,43 @@
 -- The header: fields at fixed places. Assumes nothing.
 use Prim.Native.Nat.{ℕ, _≤_}
 use mathlib.Core.Bool.{not}
-use mathlib.Core.List.{List}
+use mathlib.Core.List.{List, [], _∷_}
 use lib.Dec.{ltb, eqb}
-use lib.Ieee.{round}
 use Rattle.rules.specs.Numbers as Numbers
 use Rattle.model.specs.Limits.{mostEntries, mostBreaks, settingRange, multiplierRange}
-use Rattle.bits.specs.Field.{bits, short}
+use Rattle.bits.specs.Field.{bits}
 use Rattle.model.specs.declared.Settings.{Settings}
 use Rattle.record.specs.declared.header.Counts.{Counts}
 use Rattle.record.specs.Layout as At
-use Rattle.record.specs.Refusal.{_gives_, _then_, f32Refusal, f64Refusal, f32At, f64At}
+use Rattle.record.specs.Refusal.{Field, field, plain, out32, out64, fieldsRefusal, f32At, f64At}
 
 -- hp, cs, od or ar
-unfoldable pub settingRefusal : List ℕ → ℕ → ℕ
-unfolding round f32Refusal
-settingRefusal s p = f32Refusal s p (settingRange .low) (settingRange .high) Numbers.setting
+abbrev pub setting : List ℕ → ℕ → Field
+setting s p = field p 32 (out32 s p settingRange) Numbers.setting
 
 -- the slider multiplier
-unfoldable pub multiplierRefusal : List ℕ → ℕ
-unfolding round f64Refusal
-multiplierRefusal s = f64Refusal s At.multiplier (multiplierRange .low) (multiplierRange .high) Numbers.setting
+abbrev pub multiplier : List ℕ → Field
+multiplier s = field At.multiplier 64 (out64 s At.multiplier multiplierRange) Numbers.setting
 
--- Version, key choice, hp, cs, od, ar, multiplier, and the five counts. A count can only be not whole, and no other condition stands between theirs, so
--- one condition at the end of the last gives the same number (`Laws.Row.whole-once`).
+-- of breaks, timing, difficulty and effect points, and objects
+abbrev pub countFields : List Field
+countFields = plain At.breakCount 8 ∷ plain At.timingCount 12 ∷ plain At.difficultyCount 12 ∷ plain At.effectCount 12 ∷ plain At.objectCount 12 ∷ []
+
+-- version, key choice, hp, cs, od, ar, multiplier, counts
+unfoldable pub headerFields : List ℕ → List Field
+headerFields s =
+    field At.version 4 (not (eqb (bits s At.version 4) 1)) Numbers.version
+    ∷ field At.keys 4 (ltb 9 (bits s At.keys 4)) Numbers.keyChoice
+    ∷ setting s At.hp
+    ∷ setting s At.cs
+    ∷ setting s At.od
+    ∷ setting s At.ar
+    ∷ multiplier s
+    ∷ countFields
+
 unfoldable pub headerRefusal : List ℕ → ℕ
-unfolding settingRefusal multiplierRefusal
-headerRefusal s =
-    short s At.keys gives Numbers.fieldNotWhole
-    then not (eqb (bits s At.version 4) 1) gives Numbers.version
-    then short s At.hp gives Numbers.fieldNotWhole
-    then ltb 9 (bits s At.keys 4) gives Numbers.keyChoice
-    then settingRefusal s At.hp
-    then settingRefusal s At.cs
-    then settingRefusal s At.od
-    then settingRefusal s At.ar
-    then multiplierRefusal s
-    then short s At.breaks gives Numbers.fieldNotWhole
+unfolding fieldsRefusal
+headerRefusal s = fieldsRefusal s (headerFields s)
 
 -- the key choice
 unfoldable pub keysOf : List ℕ → ℕ

@@ -1,11 +1,11 @@
 -- Objects: kind 2, sound 4, x 32, y 32, start 64, and what the kind adds. Assumes nothing.
 use Prim.Native.Nat.{ℕ, zero, suc, _+_, _*_}
-use mathlib.Core.Bool.{false}
-use mathlib.Core.List.{List}
+use mathlib.Core.Bool.{Bool, false, _||_}
+use mathlib.Core.List.{List, [], _∷_, _++_}
 use lib.Ieee.{Float, binary64, round, lt}
 use Rattle.rules.specs.Numbers as Numbers
 use Rattle.model.specs.Limits.{spanRange, distanceRange, coordinateRange}
-use Rattle.bits.specs.Field.{bits, short}
+use Rattle.bits.specs.Field.{bits}
 use Rattle.model.specs.declared.Distance.{Distance}
 use Rattle.model.specs.declared.Distance.the-variants as Distance
 use Rattle.model.specs.declared.NodeSound.{NodeSound}
@@ -18,7 +18,7 @@ use Rattle.record.specs.declared.objects.ReadObject.{ReadObject}
 use Rattle.record.specs.declared.objects.Scan.{Scan}
 use Rattle.record.specs.declared.objects.Scan.the-variants.{Refused, Scanned}
 use Rattle.record.specs.Layout as At
-use Rattle.record.specs.Refusal.{_gives_, _then_, f32Refusal, f64Refusal, f32At, f64At, entriesRefusal, entries, entriesEnd}
+use Rattle.record.specs.Refusal.{Field, field, plain, out32, out64, fieldsRefusal, f32At, f64At, entriesRefusal, entries, entriesEnd}
 
 -- ---- what a kind adds, from bit q on
 
@@ -46,7 +46,7 @@ unfolding nodeBit distanceBy nodeBy
 sliderAt s q =
     Slider (bits s q 10) (distanceBy s (q + At.distance) (bits s (q + At.isGiven) 1)) (nodeBy s (nodeBit s q + 1) (bits s (nodeBit s q) 1))
 
--- by the kind's number: its value, its end, its refusal
+-- by the kind's number: its value, its end, its fields
 unfoldable pub kindBy : List ℕ → ℕ → ℕ → Kind
 unfolding sliderAt f64At
 kindBy s q zero = Circle
@@ -60,34 +60,36 @@ kindEnd s q zero = q
 kindEnd s q (suc zero) = sliderEnd s q
 kindEnd s q (suc (suc k)) = q + 64
 
--- a start or a duration, a distance, a coordinate
-unfoldable pub spanRefusal : List ℕ → ℕ → ℕ
-unfolding round f64Refusal
-spanRefusal s p = f64Refusal s p (spanRange .low) (spanRange .high) Numbers.object
+-- a start or a duration
+abbrev pub badSpan : List ℕ → ℕ → Bool
+badSpan s p = out64 s p spanRange
 
-unfoldable pub distanceRefusal : List ℕ → ℕ → ℕ → ℕ
-unfolding round f64Refusal
-distanceRefusal s p zero = 0
-distanceRefusal s p (suc b) = f64Refusal s p (distanceRange .low) (distanceRange .high) Numbers.object
+abbrev pub spanField : List ℕ → ℕ → Field
+spanField s p = field p 64 (badSpan s p) Numbers.object
 
-unfoldable pub positionRefusal : List ℕ → ℕ → ℕ
-unfolding round f32Refusal
-positionRefusal s p = f32Refusal s p (coordinateRange .low) (coordinateRange .high) Numbers.object
+abbrev pub coordinate : List ℕ → ℕ → Field
+coordinate s p = field p 32 (out32 s p coordinateRange) Numbers.object
 
--- Repeats and the bit after them can only be not whole: one condition at the end of both gives the same number (`Laws.Row.whole-once`).
-unfoldable pub sliderRefusal : List ℕ → ℕ → ℕ
-unfolding nodeBit sliderEnd distanceRefusal
-sliderRefusal s q =
-    short s (q + At.distance) gives Numbers.fieldNotWhole
-    then distanceRefusal s (q + At.distance) (bits s (q + At.isGiven) 1)
-    then short s (nodeBit s q + 1) gives Numbers.fieldNotWhole
-    then short s (sliderEnd s q) gives Numbers.fieldNotWhole
+-- what a bit of 1 adds: the distance, the first node sound
+abbrev pub distanceFields : List ℕ → ℕ → ℕ → List Field
+distanceFields s p zero = []
+distanceFields s p (suc b) = field p 64 (out64 s p distanceRange) Numbers.object ∷ []
 
-unfoldable pub kindRefusal : List ℕ → ℕ → ℕ → ℕ
-unfolding sliderRefusal spanRefusal
-kindRefusal s q zero = 0
-kindRefusal s q (suc zero) = sliderRefusal s q
-kindRefusal s q (suc (suc k)) = spanRefusal s q
+abbrev pub nodeFields : ℕ → ℕ → List Field
+nodeFields p zero = []
+nodeFields p (suc b) = plain p 4 ∷ []
+
+-- repeats, a bit, the distance, a bit, the first node sound
+abbrev pub sliderFields : List ℕ → ℕ → List Field
+sliderFields s q =
+    plain q 10
+    ∷ plain (q + At.isGiven) 1
+    ∷ (distanceFields s (q + At.distance) (bits s (q + At.isGiven) 1) ++ (plain (nodeBit s q) 1 ∷ nodeFields (nodeBit s q + 1) (bits s (nodeBit s q) 1)))
+
+abbrev pub kindFields : List ℕ → ℕ → ℕ → List Field
+kindFields s q zero = []
+kindFields s q (suc zero) = sliderFields s q
+kindFields s q (suc (suc k)) = spanField s q ∷ []
 
 -- ---- an object at bit p
 
@@ -115,17 +117,19 @@ unfoldable pub readAt : List ℕ → ℕ → ReadObject
 unfolding readObject objectEnd
 readAt s p = record { object = readObject s p; next = objectEnd s p }
 
--- After an object that starts at `before`: starts never fall. Kind and sound can only be not whole: one condition at the end of both gives the same
--- number (`Laws.Row.whole-once`).
+-- Kind, sound, x, y, start, and what the kind adds, after an object that starts at `before`: starts never fall.
+abbrev pub objectFields : List ℕ → ℕ → Float → List Field
+objectFields s p before =
+    plain p 2
+    ∷ plain (p + At.sound) 4
+    ∷ coordinate s (p + At.x)
+    ∷ coordinate s (p + At.y)
+    ∷ field (p + At.start) 64 (badSpan s (p + At.start) || lt (startAt s p) before) Numbers.object
+    ∷ kindFields s (p + At.added) (bits s p 2)
+
 unfoldable pub objectRefusal : List ℕ → ℕ → Float → ℕ
-unfolding positionRefusal spanRefusal kindRefusal startAt lt
-objectRefusal s p before =
-    short s (p + At.x) gives Numbers.fieldNotWhole
-    then positionRefusal s (p + At.x)
-    then positionRefusal s (p + At.y)
-    then spanRefusal s (p + At.start)
-    then lt (startAt s p) before gives Numbers.object
-    then kindRefusal s (p + At.added) (bits s p 2)
+unfolding fieldsRefusal
+objectRefusal s p before = fieldsRefusal s (objectFields s p before)
 
 -- ---- n objects from bit p on
 

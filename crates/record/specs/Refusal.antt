@@ -4,6 +4,7 @@ use Prim.Native.Nat.{ℕ, zero, suc, _+_}
 use mathlib.Core.Bool.{Bool, true, false, not}
 use mathlib.Core.List.{List, [], _∷_}
 use lib.Ieee.{Float, binary32, binary64}
+use Rattle.model.specs.Limits.{Range}
 use Rattle.rules.specs.Numbers as Numbers
 use Rattle.bits.specs.Field.{bits, short}
 use Rattle.floats.specs.Range.{within, float}
@@ -20,13 +21,35 @@ unfoldable pub _then_ : ℕ → ℕ → ℕ
 zero then b = b
 suc a then b = suc a
 
--- a float field of 32 bits at bit p: first it is whole, then it is from lo to hi, else n
-unfoldable pub f32Refusal : List ℕ → ℕ → Float → Float → ℕ → ℕ
-f32Refusal s p lo hi n = short s (p + 32) gives Numbers.fieldNotWhole then not (within binary32 lo hi (bits s p 32)) gives n
+-- a field of `width` bits at bit `place`, and its own refusal, 0 where it has none
+pub record Field : Type 0 where
+  pub place : ℕ
+  pub width : ℕ
+  pub own : ℕ
 
--- the same of 64 bits
-unfoldable pub f64Refusal : List ℕ → ℕ → Float → Float → ℕ → ℕ
-f64Refusal s p lo hi n = short s (p + 64) gives Numbers.fieldNotWhole then not (within binary64 lo hi (bits s p 64)) gives n
+-- w bits at bit p, refused with n under the condition
+abbrev pub field : ℕ → ℕ → Bool → ℕ → Field
+field p w bad n = record { place = p; width = w; own = bad gives n }
+
+-- w bits at bit p with no condition of their own
+abbrev pub plain : ℕ → ℕ → Field
+plain p w = record { place = p; width = w; own = 0 }
+
+-- out of its range, of an f32 and of an f64
+abbrev pub out32 : List ℕ → ℕ → Range → Bool
+out32 s p range = not (within binary32 (range .low) (range .high) (bits s p 32))
+
+abbrev pub out64 : List ℕ → ℕ → Range → Bool
+out64 s p range = not (within binary64 (range .low) (range .high) (bits s p 64))
+
+-- a field cut off by the record's end gives 1, else its own condition gives its number
+abbrev pub fieldRefusal : List ℕ → Field → ℕ
+fieldRefusal s f = short s (f .place + f .width) gives Numbers.fieldNotWhole then f .own
+
+-- the number of the first field that is refused
+unfoldable pub fieldsRefusal : List ℕ → List Field → ℕ
+fieldsRefusal s [] = 0
+fieldsRefusal s (f ∷ fs) = fieldRefusal s f then fieldsRefusal s fs
 
 -- the float field of 32 bits at bit p
 unfoldable pub f32At : List ℕ → ℕ → Float

@@ -1,12 +1,12 @@
 -- The four lists whose entries have one width: breaks, timing points, difficulty points and effect points. Assumes nothing.
 use Prim.Native.Nat.{ℕ, _+_}
-use mathlib.Core.Bool.{not, true}
-use mathlib.Core.List.{List}
+use mathlib.Core.Bool.{Bool, not, true, _||_}
+use mathlib.Core.List.{List, [], _∷_}
 use lib.Dec.{eqb}
 use lib.Ieee.{Float, binary64, round, lt}
 use Rattle.rules.specs.Numbers as Numbers
 use Rattle.model.specs.Limits.{latestStart, timeRange, beatRange, velocityRange}
-use Rattle.bits.specs.Field.{bits, short}
+use Rattle.bits.specs.Field.{bits}
 use Rattle.model.specs.declared.BreakPeriod.{BreakPeriod}
 use Rattle.model.specs.declared.TimingPoint.{TimingPoint}
 use Rattle.model.specs.declared.DifficultyPoint.{DifficultyPoint}
@@ -14,7 +14,7 @@ use Rattle.model.specs.declared.EffectPoint.{EffectPoint}
 use Rattle.record.specs.declared.section.Section.{Section}
 use Rattle.record.specs.declared.section.Section.the-variants.{Breaks, TimingPoints, DifficultyPoints, EffectPoints}
 use Rattle.record.specs.Layout as At
-use Rattle.record.specs.Refusal.{_gives_, _then_, f64Refusal, f64At, entriesRefusal, entries}
+use Rattle.record.specs.Refusal.{Field, field, plain, out64, fieldsRefusal, f64At, entriesRefusal, entries}
 
 -- the bits of an entry
 abbrev pub widthOf : Section → ℕ
@@ -27,31 +27,33 @@ widthOf EffectPoints = At.effectEntry
 abbrev pub entryEnd : Section → ℕ → ℕ
 entryEnd k p = p + widthOf k
 
--- a break or point time, a beat length, a velocity
-unfoldable pub timeRefusal : List ℕ → ℕ → ℕ
-unfolding round f64Refusal
-timeRefusal s p = f64Refusal s p (timeRange .low) (timeRange .high) Numbers.breakOrPoint
+-- a break or point time
+abbrev pub badTime : List ℕ → ℕ → Bool
+badTime s p = out64 s p timeRange
 
-unfoldable pub beatRefusal : List ℕ → ℕ → ℕ
-unfolding round f64Refusal
-beatRefusal s p = f64Refusal s p (beatRange .low) (beatRange .high) Numbers.breakOrPoint
+abbrev pub timeField : List ℕ → ℕ → Field
+timeField s p = field p 64 (badTime s p) Numbers.breakOrPoint
 
-unfoldable pub velocityRefusal : List ℕ → ℕ → ℕ
-unfolding round f64Refusal
-velocityRefusal s p = f64Refusal s p (velocityRange .low) (velocityRange .high) Numbers.breakOrPoint
+-- a point's time, after one at the time `before`: times rise strictly
+abbrev pub pointTime : List ℕ → ℕ → Float → Field
+pointTime s p before = field p 64 (badTime s p || not (lt before (f64At s p))) Numbers.breakOrPoint
 
--- a point's time at bit p, after a point at the time `before`: times rise strictly
-unfoldable pub risingRefusal : List ℕ → ℕ → Float → ℕ
-unfolding timeRefusal f64At lt
-risingRefusal s p before = timeRefusal s p then not (lt before (f64At s p)) gives Numbers.breakOrPoint
+abbrev pub beatField : List ℕ → ℕ → Field
+beatField s p = field p 64 (out64 s p beatRange) Numbers.breakOrPoint
 
--- The entry at bit p. A break's start is not above its end, and breaks have no order. Kiai can only be not whole.
+abbrev pub velocityField : List ℕ → ℕ → Field
+velocityField s p = field p 64 (out64 s p velocityRange) Numbers.breakOrPoint
+
+-- The entry at bit p. A break's start is not above its end, and breaks have no order.
+abbrev pub entryFields : Section → List ℕ → ℕ → Float → List Field
+entryFields Breaks s p before = timeField s p ∷ field (p + At.second) 64 (badTime s (p + At.second) || lt (f64At s (p + At.second)) (f64At s p)) Numbers.breakOrPoint ∷ []
+entryFields TimingPoints s p before = pointTime s p before ∷ beatField s (p + At.second) ∷ []
+entryFields DifficultyPoints s p before = pointTime s p before ∷ velocityField s (p + At.second) ∷ []
+entryFields EffectPoints s p before = pointTime s p before ∷ plain (p + At.second) 1 ∷ []
+
 unfoldable pub entryRefusal : Section → List ℕ → ℕ → Float → ℕ
-unfolding timeRefusal risingRefusal beatRefusal velocityRefusal f64At lt
-entryRefusal Breaks s p before = timeRefusal s p then timeRefusal s (p + At.second) then lt (f64At s (p + At.second)) (f64At s p) gives Numbers.breakOrPoint
-entryRefusal TimingPoints s p before = risingRefusal s p before then beatRefusal s (p + At.second)
-entryRefusal DifficultyPoints s p before = risingRefusal s p before then velocityRefusal s (p + At.second)
-entryRefusal EffectPoints s p before = risingRefusal s p before then short s (p + At.effectEntry) gives Numbers.fieldNotWhole
+unfolding fieldsRefusal
+entryRefusal k s p before = fieldsRefusal s (entryFields k s p before)
 
 -- below every time: stands before the first point's
 unfoldable pub noTime : Float

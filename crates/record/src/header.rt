@@ -1,7 +1,8 @@
 // The header: fields at fixed places.
 ghost use mathlib.Core.Path.{_≡_};
 ghost use Prim.Native.Nat.{_≤_};
-ghost use Rattle.record.specs.Header.{settingRefusal, multiplierRefusal, headerRefusal, keysOf, settingsOf, countsOf, SmallCounts};
+ghost use Rattle.record.specs.Header.{setting, multiplier, headerRefusal, keysOf, settingsOf, countsOf, SmallCounts};
+ghost use Rattle.record.specs.Refusal.{fieldRefusal};
 ghost use Rattle.record.specs.Record.{placesOf, NearPlaces};
 use crate::layout;
 use crate::refusal::f32_at;
@@ -35,7 +36,7 @@ pub struct Places {
 
 fn setting_refusal(s: &[u8], at: usize) -> u8
     requires { ⌜ at ≤ 1000000000 ⌝ }
-    ensures { λ r. ⌜ r ≡ settingRefusal (now (s .entry)) at ⌝ }
+    ensures { λ r. ⌜ r ≡ fieldRefusal (now (s .entry)) (setting (now (s .entry)) at) ⌝ }
 {
     f32_refusal(
         s,
@@ -47,7 +48,7 @@ fn setting_refusal(s: &[u8], at: usize) -> u8
 }
 
 fn multiplier_refusal(s: &[u8]) -> u8
-    ensures { λ r. ⌜ r ≡ multiplierRefusal (now (s .entry)) ⌝ }
+    ensures { λ r. ⌜ r ≡ fieldRefusal (now (s .entry)) (multiplier (now (s .entry))) ⌝ }
 {
     f64_refusal(
         s,

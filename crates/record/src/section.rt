@@ -5,7 +5,8 @@ ghost use Prim.Native.Nat.{_≤_};
 ghost use lib.Ieee.{binary64, round};
 ghost use Rattle.model.specs.Limits.{mostEntries};
 ghost use Rattle.model.specs.Totals.{breakTime};
-ghost use Rattle.record.specs.Section.{widthOf, timeRefusal, beatRefusal, velocityRefusal, risingRefusal, entryRefusal, sectionRefusal, noTime, breaks};
+ghost use Rattle.record.specs.Refusal.{fieldRefusal};
+ghost use Rattle.record.specs.Section.{widthOf, timeField, beatField, velocityField, pointTime, entryRefusal, sectionRefusal, noTime, breaks};
 use crate::layout;
 use crate::refusal::f64_at;
 use crate::refusal::f64_refusal;
@@ -39,7 +40,7 @@ pub fn width_of(section: Section) -> usize
 
 fn time_refusal(s: &[u8], at: usize) -> u8
     requires { ⌜ at ≤ 1000000000 ⌝ }
-    ensures { λ r. ⌜ r ≡ timeRefusal (now (s .entry)) at ⌝ }
+    ensures { λ r. ⌜ r ≡ fieldRefusal (now (s .entry)) (timeField (now (s .entry)) at) ⌝ }
 {
     f64_refusal(
         s,
@@ -52,7 +53,7 @@ fn time_refusal(s: &[u8], at: usize) -> u8
 
 fn beat_refusal(s: &[u8], at: usize) -> u8
     requires { ⌜ at ≤ 1000000000 ⌝ }
-    ensures { λ r. ⌜ r ≡ beatRefusal (now (s .entry)) at ⌝ }
+    ensures { λ r. ⌜ r ≡ fieldRefusal (now (s .entry)) (beatField (now (s .entry)) at) ⌝ }
 {
     f64_refusal(
         s,
@@ -65,7 +66,7 @@ fn beat_refusal(s: &[u8], at: usize) -> u8
 
 fn velocity_refusal(s: &[u8], at: usize) -> u8
     requires { ⌜ at ≤ 1000000000 ⌝ }
-    ensures { λ r. ⌜ r ≡ velocityRefusal (now (s .entry)) at ⌝ }
+    ensures { λ r. ⌜ r ≡ fieldRefusal (now (s .entry)) (velocityField (now (s .entry)) at) ⌝ }
 {
     f64_refusal(
         s,
@@ -79,7 +80,7 @@ fn velocity_refusal(s: &[u8], at: usize) -> u8
 // A point's time, after a point at the time `before`.
 fn rising_refusal(s: &[u8], at: usize, before: f64) -> u8
     requires { ⌜ at ≤ 900000000 ⌝ }
-    ensures { λ r. ⌜ r ≡ risingRefusal (now (s .entry)) at before ⌝ }
+    ensures { λ r. ⌜ r ≡ fieldRefusal (now (s .entry)) (pointTime (now (s .entry)) at before) ⌝ }
 {
     let time = time_refusal(s, at);
     let order = refuse(!(before < f64_at(s, at)), numbers::BREAK_OR_POINT);

@@ -4,7 +4,8 @@ ghost use Prim.Native.Nat.{_≤_, _+_, _*_};
 ghost use Rattle.model.specs.Limits.{mostEntries};
 ghost use Rattle.bits.specs.Field.{bits};
 ghost use Rattle.record.specs.Layout as At;
-ghost use Rattle.record.specs.Object.{nodeBit, sliderEnd, distanceBy, nodeBy, sliderAt, kindBy, spanRefusal, distanceRefusal, positionRefusal, sliderRefusal, kindRefusal, readObject, objectEnd, readAt, objectRefusal, scan};
+ghost use Rattle.record.specs.Refusal.{fieldRefusal, fieldsRefusal};
+ghost use Rattle.record.specs.Object.{nodeBit, sliderEnd, distanceBy, nodeBy, sliderAt, kindBy, spanField, coordinate, distanceFields, sliderFields, kindFields, readObject, objectEnd, readAt, objectRefusal, scan};
 ghost use Rattle.record.specs.Post.{isLong, EndBy};
 use bits::is_short;
 use bits::read_bits;
@@ -154,7 +155,7 @@ pub fn read_object(part: &[u8], at: usize) -> ReadObject
 // A start or a duration.
 fn span_refusal(s: &[u8], at: usize) -> u8
     requires { ⌜ at ≤ 1000000000 ⌝ }
-    ensures { λ r. ⌜ r ≡ spanRefusal (now (s .entry)) at ⌝ }
+    ensures { λ r. ⌜ r ≡ fieldRefusal (now (s .entry)) (spanField (now (s .entry)) at) ⌝ }
 {
     f64_refusal(
         s,
@@ -167,7 +168,7 @@ fn span_refusal(s: &[u8], at: usize) -> u8
 
 fn distance_refusal(s: &[u8], at: usize, given: usize) -> u8
     requires { ⌜ at ≤ 1000000000 ⌝ }
-    ensures { λ r. ⌜ r ≡ distanceRefusal (now (s .entry)) at given ⌝ }
+    ensures { λ r. ⌜ r ≡ fieldsRefusal (now (s .entry)) (distanceFields (now (s .entry)) at given) ⌝ }
 {
     if given == 0 {
         0
@@ -184,7 +185,7 @@ fn distance_refusal(s: &[u8], at: usize, given: usize) -> u8
 
 fn position_refusal(s: &[u8], at: usize) -> u8
     requires { ⌜ at ≤ 1000000000 ⌝ }
-    ensures { λ r. ⌜ r ≡ positionRefusal (now (s .entry)) at ⌝ }
+    ensures { λ r. ⌜ r ≡ fieldRefusal (now (s .entry)) (coordinate (now (s .entry)) at) ⌝ }
 {
     f32_refusal(
         s,
@@ -197,7 +198,7 @@ fn position_refusal(s: &[u8], at: usize) -> u8
 
 fn slider_refusal(s: &[u8], at: usize) -> u8
     requires { ⌜ at ≤ 900000000 ⌝ }
-    ensures { λ r. ⌜ r ≡ sliderRefusal (now (s .entry)) at ⌝ }
+    ensures { λ r. ⌜ r ≡ fieldsRefusal (now (s .entry)) (sliderFields (now (s .entry)) at) ⌝ }
 {
     let whole = refuse(is_short(s, at + layout::DISTANCE), numbers::FIELD_NOT_WHOLE);
     let distance = distance_refusal(
@@ -212,7 +213,7 @@ fn slider_refusal(s: &[u8], at: usize) -> u8
 
 fn kind_refusal(s: &[u8], at: usize, kind: u64) -> u8
     requires { ⌜ at ≤ 900000000 ⌝ }
-    ensures { λ r. ⌜ r ≡ kindRefusal (now (s .entry)) at kind ⌝ }
+    ensures { λ r. ⌜ r ≡ fieldsRefusal (now (s .entry)) (kindFields (now (s .entry)) at kind) ⌝ }
 {
     match kind {
         0 => 0,

@@ -1,5 +1,5 @@
 -- What acceptance says: the parts of the row refuse nothing. Assumes nothing.
-use mathlib.Core.Path.{_≡_, refl}
+use mathlib.Core.Path.{_≡_, refl, subst}
 use Prim.Native.Nat.{ℕ, zero, suc, _+_, _*_, _≤_, _<_}
 use mathlib.Core.List.{List}
 use native.Mathlib.Omega.{arith}
@@ -9,8 +9,8 @@ use Rattle.bits.specs.Field.{bits, short}
 use Rattle.model.specs.Song.{Song}
 use Rattle.record.specs.declared.section.Section.the-variants.{Breaks, TimingPoints, DifficultyPoints, EffectPoints}
 use Rattle.record.specs.Layout as At
-use Rattle.record.specs.Refusal.{entriesRefusal}
-use Rattle.record.specs.Header.{settingRefusal, multiplierRefusal, headerRefusal, countsOf}
+use Rattle.record.specs.Refusal.{fieldRefusal, fieldsRefusal, entriesRefusal}
+use Rattle.record.specs.Header.{setting, multiplier, headerFields, headerRefusal, countsOf}
 use Rattle.record.specs.Section.{sectionRefusal}
 use Rattle.record.specs.Object.{objectRefusal, objectsRefusal}
 use Rattle.record.specs.Record.{placesOf, listsRefusal, fillRefusal, recordEnd, recordRefusal, songOf, accepted, refused, parsedBy, parse}
@@ -41,11 +41,11 @@ refused-number s n e = refused-by (recordRefusal s) n (songOf s) e
 pub record HeaderParts (s : List ℕ) : Type 0 where
   pub version : bits s 0 4 ≡ 1
   pub keys : bits s 4 4 ≤ 9
-  pub hp : settingRefusal s At.hp ≡ 0
-  pub cs : settingRefusal s At.cs ≡ 0
-  pub od : settingRefusal s At.od ≡ 0
-  pub ar : settingRefusal s At.ar ≡ 0
-  pub multiplier : multiplierRefusal s ≡ 0
+  pub hp : fieldRefusal s (setting s At.hp) ≡ 0
+  pub cs : fieldRefusal s (setting s At.cs) ≡ 0
+  pub od : fieldRefusal s (setting s At.od) ≡ 0
+  pub ar : fieldRefusal s (setting s At.ar) ≡ 0
+  pub multiplier : fieldRefusal s (multiplier s) ≡ 0
   pub whole : At.breaks ≤ 8 * length s
 
 pub record Parts (s : List ℕ) : Type 0 where
@@ -69,33 +69,34 @@ parts s h =
     record { header = a .0; breaks = l .0; timing = m .0; difficulty = n .0; effect = n .1; objects = o .0; fill = o .1 }
 
 pub header-parts : (s : List ℕ) → headerRefusal s ≡ 0 → HeaderParts s
-unfolding headerRefusal short
+unfolding headerRefusal headerFields fieldsRefusal short
 header-parts s h =
-    let a = then-none _ _ h .1 in
-    let b = then-none _ _ a in
-    let d = then-none _ _ (b .1) .1 in
-    let e = then-none _ _ d in
+    let a = then-none _ _ h in
+    let b = then-none _ _ (a .1) in
+    let d = then-none _ _ (b .1) in
+    let e = then-none _ _ (d .1) in
     let f = then-none _ _ (e .1) in
     let g = then-none _ _ (f .1) in
     let i = then-none _ _ (g .1) in
-    let j = then-none _ _ (i .1) in
-    let k = then-none _ _ (j .1) in
+    let counts = then-none _ _ (then-none _ _ (then-none _ _ (then-none _ _ (then-none _ _ (i .1) .1) .1) .1) .1) .0 in
     record {
-      version = eqb-true (bits s 0 4) 1 (not-false _ (gives-none _ 1 (b .0)));
-      keys = ltb-false 9 (bits s 4 4) (gives-none _ 2 (e .0));
-      hp = f .0;
-      cs = g .0;
-      od = i .0;
-      ar = j .0;
-      multiplier = k .0;
-      whole = ltb-false (8 * length s) At.breaks (gives-none _ 0 (k .1));
+      version = eqb-true (bits s 0 4) 1 (not-false _ (gives-none _ 1 (then-none _ _ (a .0) .1)));
+      keys = ltb-false 9 (bits s 4 4) (gives-none _ 2 (then-none _ _ (b .0) .1));
+      hp = d .0;
+      cs = e .0;
+      od = f .0;
+      ar = g .0;
+      multiplier = i .0;
+      whole = ltb-false (8 * length s) At.breaks (gives-none _ 0 (then-none _ _ counts .0));
     }
 
 -- the first object's first six bits are there
 whole-object : (s : List ℕ) (p n : ℕ) → objectsRefusal s p n ≡ 0 → 0 < n → p + 6 ≤ 8 * length s
-unfolding objectsRefusal entriesRefusal objectRefusal short
+unfolding objectsRefusal entriesRefusal objectRefusal fieldsRefusal short
 whole-object s p zero h l = omega arith
-whole-object s p (suc n) h l = ltb-false _ _ (gives-none _ 0 (then-none _ _ (then-none _ _ h .0) .0))
+whole-object s p (suc n) h l =
+    let e : p + At.sound + 4 ≡ p + At.x = omega arith in
+    subst (λ (q : ℕ). q ≤ 8 * length s) e (ltb-false _ _ (gives-none _ 0 (then-none _ _ (then-none _ _ (then-none _ _ (then-none _ _ h .0) .1) .0) .0)))
 
 pub first-object : (s : List ℕ) → Parts s → 0 < countsOf s .objects → placesOf (countsOf s) .objects + 6 ≤ 8 * length s
 first-object s h l = whole-object s (placesOf (countsOf s) .objects) (countsOf s .objects) (h .objects) l

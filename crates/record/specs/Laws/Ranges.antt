@@ -1,14 +1,14 @@
 -- An accepted record's song is in its ranges and orders (`Fit`). Assumes nothing.
-use mathlib.Core.Path.{_≡_, refl, sym, subst}
+use mathlib.Core.Path.{_≡_, refl, sym, subst, _∙_}
 use Prim.Native.Nat.{ℕ, zero, suc, _+_, _≤_, _<_}
 use native.Mathlib.Omega.{arith}
-use mathlib.Core.Bool.{true, false}
+use mathlib.Core.Bool.{Bool, true, false, not, _||_}
 use mathlib.Core.List.{List}
 use lib.Dec.{T}
 use lib.Ieee.{Float, Format, binary32, binary64, lt}
 use lib.Ieee.Bits.{ofBits-fits}
 use borrow.Author.Tests.{not-false}
-use Rattle.model.specs.Limits.{Range, mostEntries, mostBreaks, settingRange, multiplierRange}
+use Rattle.model.specs.Limits.{Range, mostEntries, mostBreaks, settingRange, multiplierRange, timeRange, beatRange, velocityRange, spanRange, coordinateRange, distanceRange}
 use Rattle.bits.specs.Field.{bits}
 use Rattle.bits.specs.Laws.Fields.{bits-lt}
 use Rattle.floats.specs.Range.{within, float}
@@ -21,13 +21,13 @@ use Rattle.rules.specs.Each.{Each}
 use Rattle.record.specs.declared.section.Section.{Section}
 use Rattle.record.specs.declared.section.Section.the-variants.{Breaks, TimingPoints, DifficultyPoints, EffectPoints}
 use Rattle.record.specs.Layout as At
-use Rattle.record.specs.Refusal.{f32Refusal, f64Refusal, f32At, f64At, entriesRefusal, entries}
-use Rattle.record.specs.Header.{settingRefusal, multiplierRefusal, keysOf, settingsOf, countsOf}
-use Rattle.record.specs.Section.{entryEnd, timeRefusal, beatRefusal, velocityRefusal, risingRefusal, entryRefusal, noTime, sectionRefusal, readBreak, readTimingPoint, readDifficultyPoint, readEffectPoint, breaks, timingPoints, difficultyPoints, effectPoints}
-use Rattle.record.specs.Object.{nodeBit, distanceBy, nodeBy, sliderAt, kindBy, spanRefusal, distanceRefusal, positionRefusal, sliderRefusal, kindRefusal, startAt, readObject, objectEnd, objectRefusal, zeroStart, objectsRefusal, objects}
+use Rattle.record.specs.Refusal.{field, out32, out64, fieldRefusal, fieldsRefusal, f32At, f64At, entriesRefusal, entries}
+use Rattle.record.specs.Header.{keysOf, settingsOf, countsOf}
+use Rattle.record.specs.Section.{entryEnd, pointTime, entryRefusal, noTime, sectionRefusal, readBreak, readTimingPoint, readDifficultyPoint, readEffectPoint, breaks, timingPoints, difficultyPoints, effectPoints}
+use Rattle.record.specs.Object.{nodeBit, distanceBy, nodeBy, sliderAt, kindBy, distanceFields, sliderFields, kindFields, startAt, readObject, objectEnd, objectRefusal, zeroStart, objectsRefusal, objects}
 use Rattle.record.specs.Record.{placesOf, songOf, accepted, parse}
-use Rattle.record.specs.Fit.{Bounded, FitTime, FitBreak, FitTiming, FitDifficulty, FitEffect, FitSpan, FitDistance, FitNode, FitKind, FitCoordinate, FitObject, RisesFrom, Rises, NoFallFrom, NoFall, FitSong}
-use Rattle.record.specs.Laws.Row.{then-none, gives-none}
+use Rattle.record.specs.Fit.{Bounded, FitTime, FitBreak, FitTiming, FitDifficulty, FitEffect, FitDistance, FitNode, FitKind, FitObject, RisesFrom, Rises, NoFallFrom, NoFall, FitSong}
+use Rattle.record.specs.Laws.Row.{then-none, gives-none, or-none, fields-append}
 use Rattle.record.specs.Laws.Counts.{small-counts}
 use Rattle.record.specs.Laws.Entries.{length-entries}
 use Rattle.record.specs.Laws.Accepted.{accepted-none, Parts, parts, header-parts}
@@ -38,54 +38,52 @@ pattern : (f : Format) (range : Range) (b : ℕ) → within f (range .low) (rang
 pattern f range b h = subst (Bounded f range) (sym (float-within f b (range .low) (range .high) h)) (record { exact = ofBits-fits f b; inside = subst T (sym h) tt })
 
 module _ (s : List ℕ) where
-  field32 : (p n : ℕ) (range : Range) → f32Refusal s p (range .low) (range .high) (suc n) ≡ 0 → Bounded binary32 range (f32At s p)
-  unfolding f32Refusal f32At
+  -- a field of 32 and of 64 bits, and one with a second condition
+  field32 : (p n : ℕ) (range : Range) → fieldRefusal s (field p 32 (out32 s p range) (suc n)) ≡ 0 → Bounded binary32 range (f32At s p)
+  unfolding f32At
   field32 p n range h = pattern binary32 range (bits s p 32) (not-false _ (gives-none _ n (then-none _ _ h .1)))
 
-  field64 : (p n : ℕ) (range : Range) → f64Refusal s p (range .low) (range .high) (suc n) ≡ 0 → Bounded binary64 range (f64At s p)
-  unfolding f64Refusal f64At
+  field64 : (p n : ℕ) (range : Range) → fieldRefusal s (field p 64 (out64 s p range) (suc n)) ≡ 0 → Bounded binary64 range (f64At s p)
+  unfolding f64At
   field64 p n range h = pattern binary64 range (bits s p 64) (not-false _ (gives-none _ n (then-none _ _ h .1)))
+
+  field-two : (p n : ℕ) (range : Range) (b : Bool) → fieldRefusal s (field p 64 (out64 s p range || b) (suc n)) ≡ 0 → Bounded binary64 range (f64At s p) × (b ≡ false)
+  unfolding f64At
+  field-two p n range b h =
+      let e = or-none _ _ (gives-none _ n (then-none _ _ h .1)) in
+      (pattern binary64 range (bits s p 64) (not-false _ (e .0)), e .1)
 
   -- ---- settings and points
 
-  setting-field : (p : ℕ) → settingRefusal s p ≡ 0 → Bounded binary32 settingRange (f32At s p)
-  unfolding settingRefusal
-  setting-field p h = field32 p 3 _ h
-
-  multiplier-field : multiplierRefusal s ≡ 0 → Bounded binary64 multiplierRange (f64At s At.multiplier)
-  unfolding multiplierRefusal
-  multiplier-field h = field64 At.multiplier 3 _ h
-
-  time-field : (p : ℕ) → timeRefusal s p ≡ 0 → FitTime (f64At s p)
-  unfolding timeRefusal
-  time-field p h = field64 p 4 _ h
-
-  rising-field : (p : ℕ) (before : Float) → risingRefusal s p before ≡ 0 → FitTime (f64At s p) × (lt before (f64At s p) ≡ true)
-  unfolding risingRefusal
-  rising-field p before h = (time-field p (then-none _ _ h .0), not-false _ (gives-none _ 4 (then-none _ _ h .1)))
+  rising-field : (p : ℕ) (before : Float) → fieldRefusal s (pointTime s p before) ≡ 0 → FitTime (f64At s p) × (lt before (f64At s p) ≡ true)
+  rising-field p before h = let t = field-two p 4 timeRange (not (lt before (f64At s p))) h in (t .0, not-false _ (t .1))
 
   break-fit : (p : ℕ) (before : Float) → entryRefusal Breaks s p before ≡ 0 → FitBreak (readBreak s p)
-  unfolding entryRefusal readBreak
+  unfolding entryRefusal fieldsRefusal readBreak
   break-fit p before h =
       let a = then-none _ _ h in
-      let b = then-none _ _ (a .1) in
-      record { start = time-field p (a .0); end = time-field (p + At.second) (b .0); order = gives-none _ 4 (b .1) }
+      let b = field-two (p + At.second) 4 timeRange (lt (f64At s (p + At.second)) (f64At s p)) (then-none _ _ (a .1) .0) in
+      record { start = field64 p 4 timeRange (a .0); end = b .0; order = b .1 }
 
   timing-fit : (p : ℕ) (before : Float) → entryRefusal TimingPoints s p before ≡ 0 → FitTiming (readTimingPoint s p)
-  unfolding entryRefusal readTimingPoint beatRefusal
-  timing-fit p before h = record { time = rising-field p before (then-none _ _ h .0) .0; beat = field64 (p + At.second) 4 _ (then-none _ _ h .1) }
+  unfolding entryRefusal fieldsRefusal readTimingPoint
+  timing-fit p before h =
+      let a = then-none _ _ h in
+      record { time = rising-field p before (a .0) .0; beat = field64 (p + At.second) 4 beatRange (then-none _ _ (a .1) .0) }
 
   difficulty-fit : (p : ℕ) (before : Float) → entryRefusal DifficultyPoints s p before ≡ 0 → FitDifficulty (readDifficultyPoint s p)
-  unfolding entryRefusal readDifficultyPoint velocityRefusal
-  difficulty-fit p before h = record { time = rising-field p before (then-none _ _ h .0) .0; velocity = field64 (p + At.second) 4 _ (then-none _ _ h .1) }
+  unfolding entryRefusal fieldsRefusal readDifficultyPoint
+  difficulty-fit p before h =
+      let a = then-none _ _ h in
+      record { time = rising-field p before (a .0) .0; velocity = field64 (p + At.second) 4 velocityRange (then-none _ _ (a .1) .0) }
 
   effect-fit : (p : ℕ) (before : Float) → entryRefusal EffectPoints s p before ≡ 0 → FitEffect (readEffectPoint s p)
-  unfolding entryRefusal readEffectPoint
+  unfolding entryRefusal fieldsRefusal readEffectPoint
   effect-fit p before h = rising-field p before (then-none _ _ h .0) .0
 
   -- a point's time is above the one before
   pub above : (k : Section) (p : ℕ) (before : Float) → (k ≡ Breaks → ⊥) → entryRefusal k s p before ≡ 0 → lt before (f64At s p) ≡ true
-  unfolding entryRefusal
+  unfolding entryRefusal fieldsRefusal
   above Breaks p before x h = absurd (x refl)
   above TimingPoints p before x h = rising-field p before (then-none _ _ h .0) .1
   above DifficultyPoints p before x h = rising-field p before (then-none _ _ h .0) .1
@@ -93,52 +91,45 @@ module _ (s : List ℕ) where
 
   -- ---- an object
 
-  span-field : (p : ℕ) → spanRefusal s p ≡ 0 → FitSpan (f64At s p)
-  unfolding spanRefusal
-  span-field p h = field64 p 5 _ h
-
-  coordinate-field : (p : ℕ) → positionRefusal s p ≡ 0 → FitCoordinate (f32At s p)
-  unfolding positionRefusal
-  coordinate-field p h = field32 p 5 _ h
-
-  distance-fit : (p b : ℕ) → distanceRefusal s p b ≡ 0 → FitDistance (distanceBy s p b)
-  unfolding distanceRefusal distanceBy
+  distance-fit : (p b : ℕ) → fieldsRefusal s (distanceFields s p b) ≡ 0 → FitDistance (distanceBy s p b)
+  unfolding fieldsRefusal distanceBy
   distance-fit p zero h = tt
-  distance-fit p (suc b) h = field64 p 5 _ h
+  distance-fit p (suc b) h = field64 p 5 distanceRange (then-none _ _ h .0)
 
   node-fit : (p b : ℕ) → FitNode (nodeBy s p b)
   unfolding nodeBy
   node-fit p zero = tt
   node-fit p (suc b) = bits-lt s p 4
 
-  slider-fit : (q : ℕ) → sliderRefusal s q ≡ 0 → FitKind (sliderAt s q)
-  unfolding sliderRefusal sliderAt
+  slider-fit : (q : ℕ) → fieldsRefusal s (sliderFields s q) ≡ 0 → FitKind (sliderAt s q)
+  unfolding fieldsRefusal sliderAt
   slider-fit q h =
-      let a = then-none _ _ h .1 in
-      (bits-lt s q 10, distance-fit (q + At.distance) (bits s (q + At.isGiven) 1) (then-none _ _ a .0), node-fit (nodeBit s q + 1) (bits s (nodeBit s q) 1))
+      let a = then-none _ _ (then-none _ _ h .1) .1 in
+      let d = then-none _ _ (sym (fields-append s (distanceFields s (q + At.distance) (bits s (q + At.isGiven) 1)) _) ∙ a) in
+      (bits-lt s q 10, distance-fit (q + At.distance) (bits s (q + At.isGiven) 1) (d .0), node-fit (nodeBit s q + 1) (bits s (nodeBit s q) 1))
 
-  kind-fit : (q k : ℕ) → kindRefusal s q k ≡ 0 → FitKind (kindBy s q k)
-  unfolding kindRefusal kindBy
+  kind-fit : (q k : ℕ) → fieldsRefusal s (kindFields s q k) ≡ 0 → FitKind (kindBy s q k)
+  unfolding fieldsRefusal kindBy
   kind-fit q zero h = tt
   kind-fit q (suc zero) h = slider-fit q h
-  kind-fit q (suc (suc zero)) h = span-field q h
-  kind-fit q (suc (suc (suc k))) h = span-field q h
+  kind-fit q (suc (suc zero)) h = field64 q 5 spanRange (then-none _ _ h .0)
+  kind-fit q (suc (suc (suc k))) h = field64 q 5 spanRange (then-none _ _ h .0)
 
   object-fit : (p : ℕ) (before : Float) → objectRefusal s p before ≡ 0 → FitObject (readObject s p) × (lt (startAt s p) before ≡ false)
-  unfolding objectRefusal readObject startAt
+  unfolding objectRefusal fieldsRefusal readObject startAt
   object-fit p before h =
-      let a = then-none _ _ (then-none _ _ h .1) in
+      let a = then-none _ _ (then-none _ _ (then-none _ _ h .1) .1) in
       let b = then-none _ _ (a .1) in
       let d = then-none _ _ (b .1) in
-      let e = then-none _ _ (d .1) in (
+      let e = field-two (p + At.start) 5 spanRange (lt (startAt s p) before) (d .0) in (
         record {
-          x = coordinate-field (p + At.x) (a .0);
-          y = coordinate-field (p + At.y) (b .0);
-          start = span-field (p + At.start) (d .0);
+          x = field32 (p + At.x) 5 coordinateRange (a .0);
+          y = field32 (p + At.y) 5 coordinateRange (b .0);
+          start = e .0;
           sound = bits-lt s (p + 2) 4;
-          kind = kind-fit (p + At.added) (bits s p 2) (e .1);
+          kind = kind-fit (p + At.added) (bits s p 2) (d .1);
         },
-        gives-none _ 5 (e .0),
+        e .1,
       )
 
 -- ---- lists
@@ -232,11 +223,11 @@ song-fits s h =
       keys = head .keys;
       settings =
           record {
-            hp = setting-field s At.hp (head .hp);
-            cs = setting-field s At.cs (head .cs);
-            od = setting-field s At.od (head .od);
-            ar = setting-field s At.ar (head .ar);
-            multiplier = multiplier-field s (head .multiplier);
+            hp = field32 s At.hp 3 settingRange (head .hp);
+            cs = field32 s At.cs 3 settingRange (head .cs);
+            od = field32 s At.od 3 settingRange (head .od);
+            ar = field32 s At.ar 3 settingRange (head .ar);
+            multiplier = field64 s At.multiplier 3 multiplierRange (head .multiplier);
           };
       breaks = each-of (entryRefusal Breaks s) (entryEnd Breaks) (f64At s) (readBreak s) FitBreak (break-fit s) At.breaks noTime (countsOf s .breaks) (h .breaks);
       timing = each-of (entryRefusal TimingPoints s) (entryEnd TimingPoints) (f64At s) (readTimingPoint s) FitTiming (timing-fit s) (placesOf (countsOf s) .timing) noTime (countsOf s .timing) (h .timing);

@@ -1,17 +1,14 @@
 -- What is true of the bytes where a number is given, and where none is. Assumes nothing.
-use mathlib.Core.Path.{_≡_, refl, sym, ap, _∙_, subst}
+use mathlib.Core.Path.{_≡_, refl, sym, ap, _∙_}
 use mathlib.Core.Logic.{_⊎_, inl, inr}
-use Prim.Native.Nat.{ℕ, zero, suc, _+_, _*_, _/_, _^_, _≤_, _<_}
+use Prim.Native.Nat.{ℕ, zero, suc, _+_, _*_, _/_, _≤_, _<_}
 use native.Mathlib.Omega.{arith}
-use mathlib.Core.Bool.{Bool, true, false, not, _||_}
-use mathlib.Core.List.{List, [], _∷_, _++_, append-assoc, append-nil}
-use lib.Dec.{ltb, eqb, lit≤}
+use mathlib.Core.Bool.{Bool, true, false}
+use mathlib.Core.List.{List, [], _∷_, _++_}
 use lib.ListN.{length}
-use lib.Ieee.{Float, lt}
+use lib.Ieee.{Float}
 use borrow.Author.Tests.{ltb-true, ltb-false, le-ltb, eqb-true, not-false}
 use Rattle.bits.specs.Field.{bits, short}
-use Rattle.bits.specs.Laws.Fields.{bits-lt}
-use Rattle.model.specs.Limits.{Range, settingRange, multiplierRange, timeRange, beatRange, velocityRange, spanRange, coordinateRange, distanceRange}
 use Rattle.model.specs.Song.{Song}
 use Rattle.rules.specs.Numbers as Numbers
 use Rattle.rules.specs.Each.{Each}
@@ -19,199 +16,39 @@ use Rattle.rules.specs.Laws.Each.{each-append}
 use Rattle.record.specs.declared.section.Section.{Section}
 use Rattle.record.specs.declared.section.Section.the-variants.{Breaks, TimingPoints, DifficultyPoints, EffectPoints}
 use Rattle.record.specs.Layout as At
-use Rattle.record.specs.Refusal.{_gives_, _then_, f32Refusal, f64Refusal, f64At, entriesRefusal}
-use Rattle.record.specs.Header.{settingRefusal, multiplierRefusal, headerRefusal, countsOf}
-use Rattle.record.specs.Section.{timeRefusal, beatRefusal, velocityRefusal, risingRefusal, entryRefusal, sectionRefusal}
-use Rattle.record.specs.Object.{nodeBit, sliderEnd, spanRefusal, distanceRefusal, positionRefusal, sliderRefusal, kindRefusal, startAt, objectRefusal, objectsRefusal}
-use Rattle.record.specs.Record.{placesOf, listsRefusal, fillRefusal, recordEnd, recordRefusal, songOf, accepted, refused, parsedBy, parse}
-use Rattle.record.specs.Fields.{Field, field, plain, out32, out64, headerFields, entryFields, distanceFields, nodeFields, sliderFields, kindFields, objectFields, entriesFields, sectionFields, objectsFields, fieldsOf, fieldsRefusal, Passes, First, Fills}
-use Rattle.record.specs.Laws.Row.{then-none, then-skip, then-assoc, gives-none, whole-once}
+use Rattle.record.specs.Refusal.{_gives_, _then_, Field, fieldRefusal, fieldsRefusal, entriesRefusal}
+use Rattle.record.specs.Header.{headerFields, headerRefusal}
+use Rattle.record.specs.Section.{entryFields, entryRefusal, sectionRefusal}
+use Rattle.record.specs.Object.{nodeBit, distanceFields, nodeFields, kindFields, objectFields, objectRefusal, objectsRefusal}
+use Rattle.record.specs.Record.{listsRefusal, fillRefusal, recordEnd, recordRefusal, songOf, accepted, refused, parsedBy, parse}
+use Rattle.record.specs.Fields.{entriesFields, sectionFields, objectsFields, fieldsOf, Passes, First, Fills}
+use Rattle.record.specs.Laws.Row.{then-none, then-skip, then-assoc, gives-none, or-none, fields-append}
 use Rattle.record.specs.Laws.Songs.{parse-accepted}
 use Rattle.record.specs.Laws.Accepted.{accepted-none, refused-number}
 
--- ---- rows
-
-no-fields : (s : List ℕ) → 0 ≡ fieldsRefusal s []
-unfolding fieldsRefusal
-no-fields s = refl
-
-then-zero : (a : ℕ) → (a then 0) ≡ a
-unfolding _then_
-then-zero zero = refl
-then-zero (suc a) = refl
-
--- the parts of a record, as its fields stand
-flat : (h b t d e o f : ℕ) → (h then ((b then (t then (d then e))) then (o then f))) ≡ ((h then (b then (t then (d then (e then o))))) then f)
-flat h b t d e o f = simp then-assoc
-
--- two conditions of one field, with one number
-own-two : (a b : Bool) (n r : ℕ) → ((a gives suc n) then ((b gives suc n) then r)) ≡ (((a || b) gives suc n) then r)
-unfolding _then_ _gives_
-own-two true b n r = refl
-own-two false b n r = refl
-
--- the row a, and whatever fields follow it, are the fields fs and those
-record RowOf (s : List ℕ) (a : ℕ) (fs : List Field) : Type 0 where
-  follows : (r : ℕ) (gs : List Field) → r ≡ fieldsRefusal s gs → (a then r) ≡ fieldsRefusal s (fs ++ gs)
+-- ---- the record's conditions, as one list of fields
 
 module _ (s : List ℕ) where
-  abbrev Row : ℕ → List Field → Type 0
-  Row = RowOf s
+  entries-fields : (fields : ℕ → Float → List Field) (next : ℕ → ℕ) (key : ℕ → Float) (p : ℕ) (before : Float) (n : ℕ)
+      → entriesRefusal (λ q x. fieldsRefusal s (fields q x)) next key p before n ≡ fieldsRefusal s (entriesFields fields next key p before n)
+  unfolding entriesRefusal entriesFields fieldsRefusal
+  entries-fields fields next key p before zero = refl
+  entries-fields fields next key p before (suc n) =
+      ap (λ (x : ℕ). fieldsRefusal s (fields p before) then x) (entries-fields fields next key (next p) (key p) n)
+      ∙ sym (fields-append s (fields p before) (entriesFields fields next key (next p) (key p) n))
 
-  row-none : Row 0 []
-  unfolding _then_
-  row-none = record { follows = λ r gs e. e }
+  pub section-is : (k : Section) (p n : ℕ) → sectionRefusal k s p n ≡ fieldsRefusal s (sectionFields k s p n)
+  unfolding sectionRefusal entryRefusal sectionFields
+  section-is k p n = entries-fields (entryFields k s) _ _ p _ n
 
-  row-cat : {a b : ℕ} {fs gs : List Field} → Row a fs → Row b gs → Row (a then b) (fs ++ gs)
-  row-cat {a} {b} {fs} {gs} h k =
-      record {
-        follows = λ r hs e. then-assoc a b r ∙ (h .follows (b then r) (gs ++ hs) (k .follows r hs e) ∙ ap (fieldsRefusal s) (sym (append-assoc fs gs hs)));
-      }
-
-  -- a field, and the row that follows
-  row-own : (p w o : ℕ) {b : ℕ} {fs : List Field} → Row b fs → Row (short s (p + w) gives Numbers.fieldNotWhole then (o then b)) (record { place = p; width = w; own = o } ∷ fs)
-  unfolding fieldsRefusal
-  row-own p w o {b} {fs} h =
-      record {
-        follows =
-            λ r gs e.
-            then-assoc (short s (p + w) gives Numbers.fieldNotWhole) (o then b) r
-            ∙ (ap (λ (x : ℕ). short s (p + w) gives Numbers.fieldNotWhole then x) (then-assoc o b r) ∙ ap (λ (x : ℕ). short s (p + w) gives Numbers.fieldNotWhole then (o then x)) (h .follows r gs e));
-      }
-
-  row-f32 : (p : ℕ) (range : Range) (n : ℕ) → Row (f32Refusal s p (range .low) (range .high) n) (field p 32 (out32 s p range) n ∷ [])
-  unfolding f32Refusal
-  row-f32 p range n = subst (λ (x : ℕ). Row (short s (p + 32) gives Numbers.fieldNotWhole then x) (field p 32 (out32 s p range) n ∷ [])) (then-zero (out32 s p range gives n)) (row-own p 32 (out32 s p range gives n) row-none)
-
-  row-f64 : (p : ℕ) (range : Range) (n : ℕ) → Row (f64Refusal s p (range .low) (range .high) n) (field p 64 (out64 s p range) n ∷ [])
-  unfolding f64Refusal
-  row-f64 p range n = subst (λ (x : ℕ). Row (short s (p + 64) gives Numbers.fieldNotWhole then x) (field p 64 (out64 s p range) n ∷ [])) (then-zero (out64 s p range gives n)) (row-own p 64 (out64 s p range gives n) row-none)
-
-  -- a float field with a second condition b, and the row that follows
-  row-two : (p : ℕ) (range : Range) (n : ℕ) (b : Bool) {c : ℕ} {fs : List Field} → Row c fs
-      → Row (f64Refusal s p (range .low) (range .high) (suc n) then (b gives suc n then c)) (field p 64 (out64 s p range || b) (suc n) ∷ fs)
-  unfolding f64Refusal
-  row-two p range n b {c} {fs} h =
-      subst (λ (x : ℕ). Row x (field p 64 (out64 s p range || b) (suc n) ∷ fs))
-      (ap (λ (x : ℕ). short s (p + 64) gives Numbers.fieldNotWhole then x) (sym (own-two (out64 s p range) b n c)) ∙ sym (then-assoc (short s (p + 64) gives Numbers.fieldNotWhole) (out64 s p range gives suc n) (b gives suc n then c)))
-      (row-own p 64 ((out64 s p range || b) gives suc n) h)
-
-  -- the same with nothing after it
-  row-last : (p : ℕ) (range : Range) (n : ℕ) (b : Bool) → Row (f64Refusal s p (range .low) (range .high) (suc n) then b gives suc n) (field p 64 (out64 s p range || b) (suc n) ∷ [])
-  row-last p range n b =
-      subst (λ (x : ℕ). Row (f64Refusal s p (range .low) (range .high) (suc n) then x) (field p 64 (out64 s p range || b) (suc n) ∷ [])) (then-zero (b gives suc n)) (row-two p range n b row-none)
-
-  -- a field with no condition of its own, which ends at bit e
-  row-plain : (p w e : ℕ) → p + w ≡ e → Row (short s e gives Numbers.fieldNotWhole) (plain p w ∷ [])
-  unfolding _then_
-  row-plain p w e h =
-      subst (λ (x : ℕ). Row x (plain p w ∷ [])) (then-zero (short s (p + w) gives Numbers.fieldNotWhole) ∙ ap (λ (x : ℕ). short s x gives Numbers.fieldNotWhole) h) (row-own p w 0 row-none)
-
-  -- one more before it
-  row-more : (p w e : ℕ) (fs : List Field) → p + w ≤ e → Row (short s e gives Numbers.fieldNotWhole) fs → Row (short s e gives Numbers.fieldNotWhole) (plain p w ∷ fs)
-  unfolding fieldsRefusal _then_
-  row-more p w e fs h k =
-      record {
-        follows =
-            λ r gs x.
-            ap (λ (a : ℕ). a then r) (sym (whole-once s (p + w) e h))
-            ∙ (then-assoc (short s (p + w) gives Numbers.fieldNotWhole) (short s e gives Numbers.fieldNotWhole) r ∙ ap (λ (a : ℕ). short s (p + w) gives Numbers.fieldNotWhole then a) (k .follows r gs x));
-      }
-
-  -- ---- the header
-
-  row-counts : Row (short s At.breaks gives Numbers.fieldNotWhole) (plain At.breakCount 8 ∷ plain At.timingCount 12 ∷ plain At.difficultyCount 12 ∷ plain At.effectCount 12 ∷ plain At.objectCount 12 ∷ [])
-  row-counts =
-      row-more At.breakCount 8 At.breaks _ (lit≤ tt) (row-more At.timingCount 12 At.breaks _ (lit≤ tt) (row-more At.difficultyCount 12 At.breaks _ (lit≤ tt) (row-more At.effectCount 12 At.breaks _ (lit≤ tt) (row-plain At.objectCount 12 At.breaks refl))))
-
-  row-header : Row (headerRefusal s) (headerFields s)
-  unfolding headerRefusal headerFields settingRefusal multiplierRefusal
-  row-header =
-      row-own At.version 4 (not (eqb (bits s At.version 4) 1) gives 2)
-      (row-own At.keys 4 (ltb 9 (bits s At.keys 4) gives 3)
-      (row-cat (row-f32 At.hp settingRange Numbers.setting) (row-cat (row-f32 At.cs settingRange Numbers.setting) (row-cat (row-f32 At.od settingRange Numbers.setting) (row-cat (row-f32 At.ar settingRange Numbers.setting) (row-cat (row-f64 At.multiplier multiplierRange Numbers.setting) row-counts))))))
-
-  -- ---- breaks and points
-
-  row-entry : (k : Section) (p : ℕ) (before : Float) → Row (entryRefusal k s p before) (entryFields k s p before)
-  unfolding entryRefusal entryFields timeRefusal risingRefusal beatRefusal velocityRefusal
-  row-entry Breaks p before = row-cat (row-f64 p timeRange Numbers.breakOrPoint) (row-last (p + At.second) timeRange 4 (lt (f64At s (p + At.second)) (f64At s p)))
-  row-entry TimingPoints p before = row-cat (row-last p timeRange 4 (not (lt before (f64At s p)))) (row-f64 (p + At.second) beatRange Numbers.breakOrPoint)
-  row-entry DifficultyPoints p before = row-cat (row-last p timeRange 4 (not (lt before (f64At s p)))) (row-f64 (p + At.second) velocityRange Numbers.breakOrPoint)
-  row-entry EffectPoints p before = row-cat (row-last p timeRange 4 (not (lt before (f64At s p)))) (row-plain (p + At.second) 1 (p + At.effectEntry) (omega arith))
-
-  -- ---- objects
-
-  row-distance : (p b : ℕ) → Row (distanceRefusal s p b) (distanceFields s p b)
-  unfolding distanceRefusal
-  row-distance p zero = row-none
-  row-distance p (suc b) = row-f64 p distanceRange Numbers.object
-
-  row-node : (m b : ℕ) → b ≤ 1 → Row (short s (m + 1) gives Numbers.fieldNotWhole then short s (m + 1 + 4 * b) gives Numbers.fieldNotWhole) (plain m 1 ∷ nodeFields (m + 1) b)
-  row-node m zero h =
-      let e : m + 1 + 4 * 0 ≡ m + 1 = omega arith in
-      subst (λ (x : ℕ). Row x (plain m 1 ∷ [])) (sym (ap (λ (x : ℕ). short s (m + 1) gives Numbers.fieldNotWhole then short s x gives Numbers.fieldNotWhole) e ∙ whole-once s (m + 1) (m + 1) (omega arith))) (row-plain m 1 (m + 1) refl)
-  row-node m (suc zero) h = row-cat (row-plain m 1 (m + 1) refl) (row-plain (m + 1) 4 (m + 1 + 4 * 1) (omega arith))
-  row-node m (suc (suc b)) h = absurd (omega arith)
-
-  row-slider : (q : ℕ) → Row (sliderRefusal s q) (sliderFields s q)
-  unfolding sliderRefusal sliderEnd
-  row-slider q =
-      row-cat (row-more q 10 (q + At.distance) (plain (q + At.isGiven) 1 ∷ []) (omega arith) (row-plain (q + At.isGiven) 1 (q + At.distance) (omega arith)))
-      (row-cat (row-distance (q + At.distance) (bits s (q + At.isGiven) 1)) (row-node (nodeBit s q) (bits s (nodeBit s q) 1) (at-most (bits-lt s (nodeBit s q) 1))))
-    where
-      at-most : {b : ℕ} → b < 2 ^ 1 → b ≤ 1
-      at-most h = omega arith
-
-  row-kind : (q k : ℕ) → Row (kindRefusal s q k) (kindFields s q k)
-  unfolding kindRefusal kindFields spanRefusal
-  row-kind q zero = row-none
-  row-kind q (suc zero) = row-slider q
-  row-kind q (suc (suc k)) = row-f64 q spanRange Numbers.object
-
-  row-object : (p : ℕ) (before : Float) → Row (objectRefusal s p before) (objectFields s p before)
-  unfolding objectRefusal objectFields positionRefusal spanRefusal
-  row-object p before =
-      row-cat (row-more p 2 (p + At.x) (plain (p + At.sound) 4 ∷ []) (omega arith) (row-plain (p + At.sound) 4 (p + At.x) (omega arith)))
-      (row-cat (row-f32 (p + At.x) coordinateRange Numbers.object) (row-cat (row-f32 (p + At.y) coordinateRange Numbers.object) (row-two (p + At.start) spanRange 5 (lt (startAt s p) before) (row-kind (p + At.added) (bits s p 2)))))
-
-  -- ---- lists
-
-  row-entries : (entry : ℕ → Float → ℕ) (fields : ℕ → Float → List Field) (next : ℕ → ℕ) (key : ℕ → Float) → ((p : ℕ) (before : Float) → Row (entry p before) (fields p before))
-      → (p : ℕ) (before : Float) (n : ℕ) → Row (entriesRefusal entry next key p before n) (entriesFields fields next key p before n)
-  unfolding entriesRefusal entriesFields
-  row-entries entry fields next key h p before zero = row-none
-  row-entries entry fields next key h p before (suc n) = row-cat (h p before) (row-entries entry fields next key h (next p) (key p) n)
-
-  row-section : (k : Section) (p n : ℕ) → Row (sectionRefusal k s p n) (sectionFields k s p n)
-  unfolding sectionRefusal sectionFields
-  row-section k p n = row-entries (entryRefusal k s) (entryFields k s) _ _ (row-entry k) p _ n
-
-  row-objects : (p n : ℕ) → Row (objectsRefusal s p n) (objectsFields s p n)
-  unfolding objectsRefusal objectsFields
-  row-objects p n = row-entries (objectRefusal s) (objectFields s) _ _ row-object p _ n
-
-  -- ---- all fields
-
-  listed : Row
-      (headerRefusal s
-      then (sectionRefusal Breaks s At.breaks (countsOf s .breaks)
-      then (sectionRefusal TimingPoints s (placesOf (countsOf s) .timing) (countsOf s .timing)
-      then (sectionRefusal DifficultyPoints s (placesOf (countsOf s) .difficulty) (countsOf s .difficulty)
-      then (sectionRefusal EffectPoints s (placesOf (countsOf s) .effect) (countsOf s .effect)
-      then objectsRefusal s (placesOf (countsOf s) .objects) (countsOf s .objects))))))
-      (fieldsOf s)
-  unfolding fieldsOf
-  listed =
-      row-cat row-header
-      (row-cat (row-section Breaks _ _) (row-cat (row-section TimingPoints _ _) (row-cat (row-section DifficultyPoints _ _) (row-cat (row-section EffectPoints _ _) (row-objects _ _)))))
+  pub objects-are : (p n : ℕ) → objectsRefusal s p n ≡ fieldsRefusal s (objectsFields s p n)
+  unfolding objectsRefusal objectRefusal objectsFields
+  objects-are p n = entries-fields (objectFields s) _ _ p _ n
 
   -- the conditions of the record are those of its fields, and then the filling
   pub record-fields : recordRefusal s ≡ (fieldsRefusal s (fieldsOf s) then fillRefusal s (recordEnd s))
-  unfolding recordRefusal listsRefusal
-  record-fields =
-      flat (headerRefusal s) _ _ _ _ _ (fillRefusal s (recordEnd s))
-      ∙ (ap (λ (x : ℕ). x then fillRefusal s (recordEnd s)) (sym (then-zero _) ∙ (listed .follows 0 [] (no-fields s) ∙ ap (fieldsRefusal s) (append-nil (fieldsOf s)))))
+  unfolding recordRefusal listsRefusal headerRefusal fieldsOf
+  record-fields = simp (section-is, objects-are, fields-append, then-assoc)
 
 -- ---- the first field that does not pass
 
@@ -224,10 +61,6 @@ gives-some : (t : Bool) (m n : ℕ) → (t gives m) ≡ suc n → (t ≡ true) �
 unfolding _gives_
 gives-some true m n h = (refl, h)
 gives-some false m n h = absurd (omega arith)
-
-or-none : (a b : Bool) → (a || b) ≡ false → (a ≡ false) × (b ≡ false)
-or-none true b h = (h, cc)
-or-none false b h = (refl, h)
 
 -- no record is refused with 0
 by-zero : (m n : ℕ) (song : Song) → parsedBy m song ≡ refused n → n ≡ 0 → ⊥
@@ -259,29 +92,26 @@ module _ (s : List ℕ) where
   first-later f fs n h k =
       record { before = f ∷ k .before; at = k .at; after = k .after; place = ap (λ (l : List Field). f ∷ l) (k .place); passed = (h, k .passed); cause = k .cause }
 
+  passes : (f : Field) → fieldRefusal s f ≡ 0 → Passes s f
+  passes f h = let a = then-none _ _ h in record { whole = whole (f .place + f .width) (gives-none _ 0 (a .0)); good = a .1 }
+
   first-field : (fs : List Field) (n : ℕ) → fieldsRefusal s fs ≡ suc n → First s fs (suc n)
   unfolding fieldsRefusal
   first-field [] n h = absurd (omega arith)
-  first-field (f ∷ fs) n h = by (row-some (short s (f .place + f .width) gives Numbers.fieldNotWhole) (f .own then fieldsRefusal s fs) n h) (first-field fs n)
+  first-field (f ∷ fs) n h = by (row-some (fieldRefusal s f) (fieldsRefusal s fs) n h) (first-field fs n)
     where
-      own : f .place + f .width ≤ 8 * length s → (f .own ≡ suc n) ⊎ ((f .own ≡ 0) × (fieldsRefusal s fs ≡ suc n)) → (fieldsRefusal s fs ≡ suc n → First s fs (suc n)) → First s (f ∷ fs) (suc n)
-      own w (inl e) go = first-here f fs (suc n) (inr (w, e))
-      own w (inr e) go = first-later f fs (suc n) (record { whole = w; good = e .0 }) (go (e .1))
+      here : ((short s (f .place + f .width) gives Numbers.fieldNotWhole) ≡ suc n) ⊎ (((short s (f .place + f .width) gives Numbers.fieldNotWhole) ≡ 0) × (f .own ≡ suc n)) → First s (f ∷ fs) (suc n)
+      here (inl e) = let c = gives-some (short s (f .place + f .width)) Numbers.fieldNotWhole n e in first-here f fs (suc n) (inl (cut (f .place + f .width) (c .0), sym (c .1)))
+      here (inr e) = first-here f fs (suc n) (inr (whole (f .place + f .width) (gives-none _ 0 (e .0)), e .1))
 
-      by : ((short s (f .place + f .width) gives Numbers.fieldNotWhole) ≡ suc n) ⊎ (((short s (f .place + f .width) gives Numbers.fieldNotWhole) ≡ 0) × ((f .own then fieldsRefusal s fs) ≡ suc n)) → (fieldsRefusal s fs ≡ suc n → First s fs (suc n)) → First s (f ∷ fs) (suc n)
-      by (inl e) go =
-          let c = gives-some (short s (f .place + f .width)) 1 n e in
-          first-here f fs (suc n) (inl (cut (f .place + f .width) (c .0), sym (c .1)))
-      by (inr e) go =
-          own (whole (f .place + f .width) (gives-none (short s (f .place + f .width)) 0 (e .0))) (row-some (f .own) (fieldsRefusal s fs) n (e .1)) go
+      by : (fieldRefusal s f ≡ suc n) ⊎ ((fieldRefusal s f ≡ 0) × (fieldsRefusal s fs ≡ suc n)) → (fieldsRefusal s fs ≡ suc n → First s fs (suc n)) → First s (f ∷ fs) (suc n)
+      by (inl e) go = here (row-some _ _ n e)
+      by (inr e) go = first-later f fs (suc n) (passes f (e .0)) (go (e .1))
 
   all-pass : (fs : List Field) → fieldsRefusal s fs ≡ 0 → Each (Passes s) fs
   unfolding fieldsRefusal
   all-pass [] h = tt
-  all-pass (f ∷ fs) h =
-      let a = then-none _ _ h in
-      let b = then-none _ _ (a .1) in
-      (record { whole = whole (f .place + f .width) (gives-none _ 0 (a .0)); good = b .0 }, all-pass fs (b .1))
+  all-pass (f ∷ fs) h = let a = then-none _ _ h in (passes f (a .0), all-pass fs (a .1))
 
   none-refused : (fs : List Field) → Each (Passes s) fs → fieldsRefusal s fs ≡ 0
   unfolding fieldsRefusal short _gives_ _then_
@@ -353,7 +183,6 @@ module _ (s : List ℕ) where
   header-gives = (inl (gives-or _ Numbers.version), (inr (inl (gives-or _ Numbers.keyChoice)), (inr (inr (gives-or _ Numbers.setting)), (inr (inr (gives-or _ Numbers.setting)), (inr (inr (gives-or _ Numbers.setting)), (inr (inr (gives-or _ Numbers.setting)), (inr (inr (gives-or _ Numbers.setting)), (inl (inl refl), (inl (inl refl), (inl (inl refl), (inl (inl refl), (inl (inl refl), tt))))))))))))
 
   entry-gives : (k : Section) (p : ℕ) (before : Float) → Each (Gives Numbers.breakOrPoint) (entryFields k s p before)
-  unfolding entryFields
   entry-gives Breaks p before = (gives-or _ Numbers.breakOrPoint, (gives-or _ Numbers.breakOrPoint, tt))
   entry-gives TimingPoints p before = (gives-or _ Numbers.breakOrPoint, (gives-or _ Numbers.breakOrPoint, tt))
   entry-gives DifficultyPoints p before = (gives-or _ Numbers.breakOrPoint, (gives-or _ Numbers.breakOrPoint, tt))
@@ -372,14 +201,12 @@ module _ (s : List ℕ) where
   node-gives p (suc b) = (inl refl, tt)
 
   kind-gives : (q k : ℕ) → Each (Gives Numbers.object) (kindFields s q k)
-  unfolding kindFields
   kind-gives q zero = tt
   kind-gives q (suc zero) =
       (inl refl, (inl refl, each-append (Gives Numbers.object) (distanceFields s (q + At.distance) (bits s (q + At.isGiven) 1)) _ (distance-gives (q + At.distance) (bits s (q + At.isGiven) 1)) (inl refl, node-gives (nodeBit s q + 1) (bits s (nodeBit s q) 1))))
   kind-gives q (suc (suc k)) = (gives-or _ Numbers.object, tt)
 
   object-gives : (p : ℕ) (before : Float) → Each (Gives Numbers.object) (objectFields s p before)
-  unfolding objectFields
   object-gives p before = (inl refl, (inl refl, (gives-or _ Numbers.object, (gives-or _ Numbers.object, (gives-or _ Numbers.object, kind-gives (p + At.added) (bits s p 2))))))
 
   pub objects-gives : (p n : ℕ) → Each (Gives Numbers.object) (objectsFields s p n)

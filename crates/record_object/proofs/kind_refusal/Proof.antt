@@ -1,6 +1,6 @@
 -- `record_object::kind_refusal` meets its contract: the kind number picks the case.
 -- Assumes nothing.
-use Rattle.record.specs.Object.{kindRefusal}
+use Rattle.record.specs.Refusal.{fieldsRefusal}
 use Rattle.record_object.proofs.Objects.{refusal-span}
 use borrow.Author.Needs.{needs}
 use Rattle.record_object.proofs.kind_refusal.Statement.{statement}
@@ -13,11 +13,10 @@ span-refusal-requires : tie.Need-span-refusal-requires
 span-refusal-requires c κs = search needs
 
 returns : tie.Need-returns
-unfolding kindRefusal
+unfolding fieldsRefusal
 returns c = rw (c .match .keys1)
 
 returns-2 : tie.Need-returns-2
-unfolding kindRefusal
 returns-2 c = rw (c .before .match .keys2, c .slider-refusal .ensures)
 
 returns-3 : tie.Need-returns-3

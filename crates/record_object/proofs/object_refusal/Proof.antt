@@ -1,6 +1,7 @@
 -- `record_object::object_refusal` meets its contract: what its calls ensure, put together.
 -- Assumes nothing.
-use Rattle.record.specs.Object.{objectRefusal, startAt}
+use Rattle.record.specs.Object.{startAt}
+use Rattle.record_object.proofs.Objects.{object-row}
 use borrow.Author.Needs.{needs}
 use Rattle.record_object.proofs.object_refusal.Statement.{statement}
 use Rattle.record_object.proofs.object_refusal.Tie as tie
@@ -66,8 +67,8 @@ first-requires-5 : tie.Need-first-requires-5
 first-requires-5 c κs = search needs
 
 returns : tie.Need-returns
-unfolding objectRefusal startAt
-returns c = simp (c .first5 .ensures, c .before .first4 .ensures, c .before .before .first3 .ensures, c .before .before .before .first2 .ensures, c .before .before .before .before .first .ensures, c .before .before .before .before .before .kind-refusal .ensures, c .before .before .before .before .before .before .read-bits .ensures, c .before .before .before .before .before .before .before .refuse2 .ensures, c .before .before .before .before .before .before .before .before .f64-at .ensures, c .before .before .before .before .before .before .before .before .before .span-refusal .ensures, c .before .before .before .before .before .before .before .before .before .before .position-refusal2 .ensures, c .before .before .before .before .before .before .before .before .before .before .before .position-refusal .ensures, c .before .before .before .before .before .before .before .before .before .before .before .before .refuse .ensures, c .before .before .before .before .before .before .before .before .before .before .before .before .before .is-short .ensures)
+unfolding startAt
+returns c = rw (c .first5 .ensures, c .before .first4 .ensures, c .before .before .first3 .ensures, c .before .before .before .first2 .ensures, c .before .before .before .before .first .ensures, c .before .before .before .before .before .kind-refusal .ensures, c .before .before .before .before .before .before .read-bits .ensures, c .before .before .before .before .before .before .before .refuse2 .ensures, c .before .before .before .before .before .before .before .before .f64-at .ensures, c .before .before .before .before .before .before .before .before .before .span-refusal .ensures, c .before .before .before .before .before .before .before .before .before .before .position-refusal2 .ensures, c .before .before .before .before .before .before .before .before .before .before .before .position-refusal .ensures, c .before .before .before .before .before .before .before .before .before .before .before .before .refuse .ensures, c .before .before .before .before .before .before .before .before .before .before .before .before .before .is-short .ensures) (object-row _ _ _)
 
 pub object-refusal-spec : {M : Type 1} → statement M
 object-refusal-spec =

@@ -1,6 +1,6 @@
 -- `record_object::slider_refusal` meets its contract: what its calls ensure, put together.
 -- Assumes nothing.
-use Rattle.record.specs.Object.{sliderRefusal}
+use Rattle.record_object.proofs.Objects.{slider-row}
 use borrow.Author.Needs.{needs}
 use Rattle.record_object.proofs.slider_refusal.Statement.{statement}
 use Rattle.record_object.proofs.slider_refusal.Tie as tie
@@ -57,8 +57,7 @@ first-requires-3 : tie.Need-first-requires-3
 first-requires-3 c κs = search needs
 
 returns : tie.Need-returns
-unfolding sliderRefusal
-returns c = simp (c .first3 .ensures, c .before .first2 .ensures, c .before .before .first .ensures, c .before .before .before .refuse3 .ensures, c .before .before .before .before .is-short3 .ensures, c .before .before .before .before .before .slider-end .ensures .0, c .before .before .before .before .before .before .refuse2 .ensures, c .before .before .before .before .before .before .before .is-short2 .ensures, c .before .before .before .before .before .before .before .before .node-bit .ensures .0, c .before .before .before .before .before .before .before .before .before .distance-refusal .ensures, c .before .before .before .before .before .before .before .before .before .before .read-flag .ensures .0, c .before .before .before .before .before .before .before .before .before .before .before .refuse .ensures, c .before .before .before .before .before .before .before .before .before .before .before .before .is-short .ensures)
+returns c = rw (c .first3 .ensures, c .before .first2 .ensures, c .before .before .first .ensures, c .before .before .before .refuse3 .ensures, c .before .before .before .before .is-short3 .ensures, c .before .before .before .before .before .slider-end .ensures .0, c .before .before .before .before .before .before .refuse2 .ensures, c .before .before .before .before .before .before .before .is-short2 .ensures, c .before .before .before .before .before .before .before .before .node-bit .ensures .0, c .before .before .before .before .before .before .before .before .before .distance-refusal .ensures, c .before .before .before .before .before .before .before .before .before .before .read-flag .ensures .0, c .before .before .before .before .before .before .before .before .before .before .before .refuse .ensures, c .before .before .before .before .before .before .before .before .before .before .before .before .is-short .ensures) (slider-row _ _)
 
 pub slider-refusal-spec : {M : Type 1} → statement M
 slider-refusal-spec =

@@ -1,7 +1,6 @@
 -- `record::header::multiplier_refusal` meets its contract: the bounds, as the code and as the definition write them, are the same floats.
 -- Assumes nothing.
 use lib.Ieee.{round, size, span, climb, units, odd, ofBits, ofFields}
-use Rattle.record.specs.Header.{multiplierRefusal}
 use borrow.Author.Needs.{needs}
 use Rattle.record.proofs.header.multiplier_refusal.Statement.{statement}
 use Rattle.record.proofs.header.multiplier_refusal.Tie as tie
@@ -10,7 +9,7 @@ f64-refusal-requires : tie.Need-f64-refusal-requires
 f64-refusal-requires c κs = search needs
 
 returns : tie.Need-returns
-unfolding multiplierRefusal round size span climb units odd ofBits ofFields
+unfolding round size span climb units odd ofBits ofFields
 returns c = c .f64-refusal .ensures
 
 pub multiplier-refusal-spec : {M : Type 1} → statement M

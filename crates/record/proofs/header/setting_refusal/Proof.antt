@@ -1,7 +1,6 @@
 -- `record::header::setting_refusal` meets its contract: the bounds, as the code and as the definition write them, are the same floats.
 -- Assumes nothing.
 use lib.Ieee.{round, size, span, climb, units, odd, ofBits, ofFields}
-use Rattle.record.specs.Header.{settingRefusal}
 use borrow.Author.Needs.{needs}
 use Rattle.record.proofs.header.setting_refusal.Statement.{statement}
 use Rattle.record.proofs.header.setting_refusal.Tie as tie
@@ -10,7 +9,7 @@ f32-refusal-requires : tie.Need-f32-refusal-requires
 f32-refusal-requires c κs = search needs
 
 returns : tie.Need-returns
-unfolding settingRefusal round size span climb units odd ofBits ofFields
+unfolding round size span climb units odd ofBits ofFields
 returns c = c .f32-refusal .ensures
 
 pub setting-refusal-spec : {M : Type 1} → statement M

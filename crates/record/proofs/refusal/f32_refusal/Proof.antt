@@ -1,6 +1,5 @@
 -- `record::refusal::f32_refusal` meets its contract: what its calls ensure, put together.
 -- Assumes nothing.
-use Rattle.record.specs.Refusal.{f32Refusal}
 use borrow.Author.Needs.{needs}
 use Rattle.record.proofs.refusal.f32_refusal.Statement.{statement}
 use Rattle.record.proofs.refusal.f32_refusal.Tie as tie
@@ -27,7 +26,6 @@ first-requires : tie.Need-first-requires
 first-requires c κs = search needs
 
 returns : tie.Need-returns
-unfolding f32Refusal
 returns c = simp (c .first .ensures, c .before .refuse2 .ensures, c .before .before .within-f32 .ensures, c .before .before .before .read32 .ensures, c .before .before .before .before .refuse .ensures, c .before .before .before .before .before .is-short .ensures)
 
 pub f32-refusal-spec : {M : Type 1} → statement M

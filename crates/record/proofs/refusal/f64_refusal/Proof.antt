@@ -1,6 +1,5 @@
 -- `record::refusal::f64_refusal` meets its contract: what its calls ensure, put together.
 -- Assumes nothing.
-use Rattle.record.specs.Refusal.{f64Refusal}
 use borrow.Author.Needs.{needs}
 use Rattle.record.proofs.refusal.f64_refusal.Statement.{statement}
 use Rattle.record.proofs.refusal.f64_refusal.Tie as tie
@@ -27,7 +26,6 @@ first-requires : tie.Need-first-requires
 first-requires c κs = search needs
 
 returns : tie.Need-returns
-unfolding f64Refusal
 returns c = simp (c .first .ensures, c .before .refuse2 .ensures, c .before .before .within-f64 .ensures, c .before .before .before .read-bits .ensures, c .before .before .before .before .refuse .ensures, c .before .before .before .before .before .is-short .ensures)
 
 pub f64-refusal-spec : {M : Type 1} → statement M

@@ -1,6 +1,8 @@
 -- `record::section::break_refusal` meets its contract: what its calls ensure, put together.
 -- Assumes nothing.
+use Rattle.record.specs.Refusal.{fieldsRefusal}
 use Rattle.record.specs.Section.{entryRefusal}
+use Rattle.record.specs.Laws.Row.{then-zero, own-two}
 use borrow.Author.Needs.{needs}
 use Rattle.record.proofs.section.break_refusal.Statement.{statement}
 use Rattle.record.proofs.section.break_refusal.Tie as tie
@@ -33,8 +35,8 @@ first-requires-2 : tie.Need-first-requires-2
 first-requires-2 c κs = search needs
 
 returns : tie.Need-returns
-unfolding entryRefusal
-returns c = simp (c .first2 .ensures, c .before .first .ensures, c .before .before .refuse .ensures, c .before .before .before .f64-at2 .ensures, c .before .before .before .before .f64-at .ensures, c .before .before .before .before .before .time-refusal2 .ensures, c .before .before .before .before .before .before .time-refusal .ensures)
+unfolding entryRefusal fieldsRefusal
+returns c = simp (then-zero, own-two, c .first2 .ensures, c .before .first .ensures, c .before .before .refuse .ensures, c .before .before .before .f64-at2 .ensures, c .before .before .before .before .f64-at .ensures, c .before .before .before .before .before .time-refusal2 .ensures, c .before .before .before .before .before .before .time-refusal .ensures)
 
 pub break-refusal-spec : {M : Type 1} → statement M
 break-refusal-spec =

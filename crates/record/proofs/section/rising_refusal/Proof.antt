@@ -1,6 +1,7 @@
 -- `record::section::rising_refusal` meets its contract: what its calls ensure, put together.
 -- Assumes nothing.
-use Rattle.record.specs.Section.{risingRefusal}
+use Rattle.rules.specs.Numbers as Numbers
+use Rattle.record.specs.Laws.Row.{own-two}
 use borrow.Author.Needs.{needs}
 use Rattle.record.proofs.section.rising_refusal.Statement.{statement}
 use Rattle.record.proofs.section.rising_refusal.Tie as tie
@@ -18,8 +19,7 @@ first-requires : tie.Need-first-requires
 first-requires c κs = search needs
 
 returns : tie.Need-returns
-unfolding risingRefusal
-returns c = simp (c .first .ensures, c .before .refuse .ensures, c .before .before .f64-at .ensures, c .before .before .before .time-refusal .ensures)
+returns c = rw (c .first .ensures, c .before .refuse .ensures, c .before .before .f64-at .ensures, c .before .before .before .time-refusal .ensures) (own-two _ _ _ Numbers.breakOrPoint)
 
 pub rising-refusal-spec : {M : Type 1} → statement M
 rising-refusal-spec =
