@@ -32,20 +32,13 @@ while i < len(lines):
         kept.append("wrote " + path)
 
 # what is left
-note = computed = False
+indent = None
 for line in kept:
-    if line.startswith("note: "):
-        note = True
+    if indent and line.startswith(indent):
         continue
-    if note and line.startswith("  "):
+    indent = "  " if line.startswith("note: ") else "      " if line.startswith("    (computed from:") else None
+    if indent:
         continue
-    note = False
-    if line.startswith("    (computed from:"):
-        computed = True
-        continue
-    if computed and line.startswith("      "):
-        continue
-    computed = False
     if re.search(r":\d+: note: ", line) and "trial run" not in line:
         continue
     if "was not admitted (it has holes" in line or re.match(r"(fn|struct|enum) .*: proved$", line) or re.match("logic |library ", line):

@@ -16,7 +16,7 @@ use record::refusal::f64_at;
 use record::section::Section;
 use record::section::width_of;
 
-// Above every start: stands for the time of a point after the last.
+// The time of a point that is never passed: above every start.
 const AFTER_ALL: f64 = limits::MOST_SPAN + 1.0;
 
 // How many points of a list are passed from one time on until another. A point is passed at the time t where its own time is at most t.

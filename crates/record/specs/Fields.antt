@@ -1,5 +1,4 @@
--- The record as one list of fields in record order. `Laws.Refusals` shows that the record's number is that of the first field of it that is refused.
--- Assumes nothing.
+-- All fields of a record, in record order. `Laws.Refusals`: a record's number is that of its first field that does not pass. Assumes nothing.
 use Prim.Native.Nat.{ℕ, zero, suc, _+_, _-_, _*_, _/_, _≤_, _<_}
 use mathlib.Core.Path.{_≡_}
 use mathlib.Core.Logic.{_⊎_}

@@ -1,4 +1,4 @@
-// What is lent as a buffer: bytes that are never zero, so that bytes that are kept or zeroed show.
+// The bytes of a lent buffer. None is zero, so that a byte set to zero shows.
 
 fn lent(i: usize) -> u8 {
     (i % 251 + 1) as u8

@@ -113,7 +113,7 @@ module _ (a b m e : ℕ) (ha : a < infinity) (hb : b ≤ a) (num : Number m e) w
       (greater (ticks (time a) + ticks (time b)) (m * 2 ^ k * 2 ^ powerOf a)
       (lt-of-lt-of-le (rw (← (parts a ha)) at under) (le-add-right (ticks (time a)) (ticks (time b)))))
 
-  -- what is left of it beyond the later time, compared with the other
+  -- where the later time a is within the bound: b is compared with the bound less a
   pub left-over : (k : ℕ) → powerOf a + k ≡ e → digitsOf a ≤ m * 2 ^ k
       → orderOf (digitsOf b) ((m * 2 ^ k - digitsOf a) * 2 ^ (powerOf a - powerOf b)) ≡ orderOf (ticks (time a) + ticks (time b)) (m * 2 ^ e)
   left-over k h l =

@@ -1,5 +1,5 @@
--- `pattern::draw_to` meets its contract. The invariant: the search from here comes to what it comes to from the start. The measure is the draws that it
--- may still make. Assumes nothing.
+-- `pattern::draw_to` meets its contract. Invariant: the search ends from here as it ends from its start. Measure: the draws that are left to it.
+-- Assumes nothing.
 use borrow.Author.Needs.{needs}
 use mathlib.Core.Path.{_≡_, sym, ap, _∙_}
 use Prim.Native.Nat.{_+_, _-_}

@@ -57,7 +57,7 @@ module _ {P R A : Type 0} (limit : ℕ) (Q : R → Type 0) where
 
   -- ---- a refusal of which Q holds
 
-  -- the last search before that end took as many as it may; d is that of the searches before
+  -- the last search made `limit` draws; where ns is empty, d is the count of the last search
   abbrev Full : ℕ → Outcome P R A → List ℕ → Type 0
   Full d (ended a n) ns = Unit {0}
   Full d (refused r n) ns = Q r → lastOr d ns ≡ limit

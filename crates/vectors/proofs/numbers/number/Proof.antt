@@ -1,4 +1,4 @@
--- `vectors::numbers::number` is safe, and its number has so many bytes. Assumes nothing.
+-- `vectors::numbers::number` is safe, and a number of n bytes is below 256^n. Assumes nothing.
 use Prim.Native.Nat.{ℕ, zero, suc, _^_, _<_}
 use native.Mathlib.Nat.{pow-suc}
 use native.Mathlib.Omega.{arith}
