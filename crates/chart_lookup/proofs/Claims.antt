@@ -14,6 +14,7 @@ use lib.Ieee.{Float}
 use lib.Ieee.Scale.{finite}
 use borrow.Author.Tests.{lt-ltb}
 use Rattle.floats.specs.Ticks.{ticks}
+use Rattle.rules.specs.Numbers as Numbers
 use Rattle.chart.specs.declared.Note.{Note}
 use Rattle.chart.specs.Time.{time}
 use Rattle.chart.specs.Tests.{either-way, never}
@@ -179,8 +180,8 @@ listed-untouched : (w : Wanted) (ns : List Note) (list : List ℕ) (n : ℕ) →
 unfolding listed
 listed-untouched w ns list n e = by-test (timesOk w) e
   where
-    by-test : (x : Bool) → (cond {A = Outcome × List ℕ} x (given (places (wanted w) 0 ns) list) (refused 17, list)) .0 ≡ refused n
-        → (cond {A = Outcome × List ℕ} x (given (places (wanted w) 0 ns) list) (refused 17, list)) .1 ≡ list
+    by-test : (x : Bool) → (cond {A = Outcome × List ℕ} x (given (places (wanted w) 0 ns) list) (refused Numbers.times, list)) .0 ≡ refused n
+        → (cond {A = Outcome × List ℕ} x (given (places (wanted w) 0 ns) list) (refused Numbers.times, list)) .1 ≡ list
     by-test true e = given-untouched (places (wanted w) 0 ns) list n e
     by-test false e = refl
 

@@ -22,7 +22,7 @@ use Rattle.mania.specs.Job.{Answer, refusal, Job, ending, refusing, under, ledg
 use Rattle.mania.specs.Job as OfSong
 use Rattle.mania.specs.Demand.{Spent, Other, Each, Lanes, OnDeck}
 use Rattle.mania.specs.Demand as Draws
-use Rattle.mania.specs.PatternGenerator.{searchLimit}
+use Rattle.model.specs.Limits.{searchLimit}
 use Rattle.mania.proofs.Allowances.{allowances}
 use Rattle.mania.proofs.Limits.{job-few}
 use Rattle.mania.proofs.Demand.{deck-and-lanes, some-columns, few-columns}

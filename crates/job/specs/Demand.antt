@@ -10,7 +10,7 @@ use Rattle.random.specs.Generator.{seeded, steps}
 use Rattle.random.specs.Play.{Answer, found, refused, tallied}
 use Rattle.random.specs.declared.Draws.{Draws}
 use Rattle.model.specs.Song.{Song}
-use Rattle.mania.specs.PatternGenerator.{searchLimit}
+use Rattle.model.specs.Limits.{searchLimit}
 use Rattle.mania.specs.Convert.{seed, convert}
 use Rattle.mania.specs.Walked.{Stop, onWalk}
 use Rattle.mania.specs.Job.{refusal, under}

@@ -9,7 +9,7 @@ use Rattle.rules.specs.Rule.{refused, spent}
 use Rattle.rules.specs.Refusal.{longSearch}
 use Rattle.rules.specs.Limited.{lastOr}
 use Rattle.model.specs.Song.{Song}
-use Rattle.mania.specs.PatternGenerator.{searchLimit}
+use Rattle.model.specs.Limits.{searchLimit}
 use Rattle.mania.specs.Convert.{at}
 use Rattle.mania.specs.Refusals.{TooLate, TooLong}
 use Rattle.mania.specs.Job.{refusal, under}

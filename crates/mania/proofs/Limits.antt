@@ -31,7 +31,8 @@ use Rattle.model.specs.Sound.{clap, finish, hasFlag}
 use Rattle.mania.specs.Steps.{double}
 use Rattle.mania.specs.PatternType.{contains, reverse, forceStack, forceNotStack, stair, reverseStair, keepSingle, mirror}
 use Rattle.mania.specs.Pattern.{Pattern, free, anyFree, empty, add}
-use Rattle.mania.specs.PatternGenerator.{searchLimit, randomStart, getRandomNoteCount, getRandomColumn, nextColumn, stepTo, drawTo, searchOn, columnSearch, findAvailableColumn, conversionDifficulty}
+use Rattle.model.specs.Limits.{searchLimit}
+use Rattle.mania.specs.PatternGenerator.{randomStart, getRandomNoteCount, getRandomColumn, nextColumn, stepTo, drawTo, searchOn, columnSearch, findAvailableColumn, conversionDifficulty}
 use Rattle.mania.specs.HitObject as HitObject
 use Rattle.mania.specs.PathObject as PathObject
 use Rattle.mania.specs.EndTimeObject as EndTimeObject

@@ -13,7 +13,8 @@ use Rattle.random.specs.Generator.{between}
 use Rattle.mania.specs.declared.Next.{Next}
 use Rattle.mania.specs.declared.Next.the-variants.{Draw, Step}
 use Rattle.mania.specs.Pattern.{free, anyFree}
-use Rattle.mania.specs.PatternGenerator.{Searched, undrawn, searchLimit, nextColumn, stepTo, drawTo, searchOn, columnSearch}
+use Rattle.model.specs.Limits.{searchLimit}
+use Rattle.mania.specs.PatternGenerator.{Searched, undrawn, nextColumn, stepTo, drawTo, searchOn, columnSearch}
 
 -- a search that ends gives the draws made before and those made since
 abbrev Own : ℕ → Outcome (Unit {0}) Refusal Searched → Type 0

@@ -33,7 +33,7 @@ use Rattle.mania.specs.Single.{made, refusal, Single, patternFits, setti
 use Rattle.mania.specs.Single as Single
 use Rattle.mania.specs.Demand.{OnDeck}
 use Rattle.mania.specs.SingleClaims.{under, draws, entry, Gave, RefusedBy, Claims, ledgerUnder}
-use Rattle.mania.specs.PatternGenerator.{searchLimit}
+use Rattle.model.specs.Limits.{searchLimit}
 use Rattle.mania.proofs.Limits.{Long, room-bound}
 use Rattle.mania.proofs.Makes.{ran}
 use Rattle.mania.specs.Laws.Singles.{Fits, pattern-fits}

@@ -14,6 +14,7 @@ use Rattle.floats.specs.declared.Way.the-variants.{Cut}
 use Rattle.model.specs.declared.Settings.{Settings}
 use Rattle.model.specs.declared.BreakPeriod.{BreakPeriod}
 use Rattle.model.specs.declared.Object.{Object}
+use Rattle.model.specs.Limits.{mostDifficulty, searchLimit}
 use Rattle.model.specs.Totals.{breakTime, firstStart, lastStart}
 use Rattle.mania.specs.declared.Next.{Next}
 use Rattle.mania.specs.declared.Next.the-variants.{Draw, Step}
@@ -62,10 +63,6 @@ pub record Searched : Type 0 where
 -- a column found without a draw
 abbrev pub undrawn : ℕ → Searched
 undrawn c = record { column = c; draws = 0 }
-
--- how many draws one search may make
-abbrev pub searchLimit : ℕ
-searchLimit = 4096
 
 -- the next column for gathered circles: `get_next_column`
 unfoldable pub nextColumn : ℕ → ℕ → ℕ
@@ -120,7 +117,7 @@ difficultyOf s breaks first last objects =
     let life = div binary64 (add binary32 (s .hp) (clamped (single 4 1) (single 7 1) (s .ar))) (double 3 2) in
     let pace = mul binary64 (div binary64 (double# objects) (ofInt binary64 (drainTime breaks first last))) (double 9 1) in
     let both = add binary64 life pace in
-    least (div binary64 (mul binary64 (div binary64 both (double 38 1)) (double 5 1)) (double 115 100)) (double 12 1)
+    least (div binary64 (mul binary64 (div binary64 both (double 38 1)) (double 5 1)) (double 115 100)) mostDifficulty
 
 -- `conversion_difficulty`: by the total break time, the first and the last start, and the number of objects
 unfoldable pub conversionDifficulty : Settings → List BreakPeriod → List Object → Float

@@ -18,7 +18,7 @@ use Rattle.mania.specs.declared.PrevValues.{PrevValues}
 use Rattle.mania.specs.declared.Note.{Note}
 use Rattle.mania.specs.declared.Stair.{Stair}
 use Rattle.mania.specs.Made.{Made}
-use Rattle.mania.specs.PatternGenerator.{searchLimit}
+use Rattle.model.specs.Limits.{searchLimit}
 use Rattle.mania.specs.Object.{object}
 use Rattle.mania.specs.Chart.{body, written}
 use Rattle.mania.specs.Single.{made, refusal, Single, withRoom, entryRefusal, singleObject}

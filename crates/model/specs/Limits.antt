@@ -85,3 +85,7 @@ distanceRange = record { low = round binary64 false 0 1; high = round binary64 f
 -- the highest difficulty
 abbrev pub mostDifficulty : Float
 mostDifficulty = round binary64 false 12 1
+
+-- draws of one column search
+abbrev pub searchLimit : ℕ
+searchLimit = 4096

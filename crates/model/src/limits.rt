@@ -54,3 +54,6 @@ pub const MOST_DISTANCE: f64 = 131072.0;
 
 // The highest difficulty.
 pub const MOST_DIFFICULTY: f64 = 12.0;
+
+// Draws of one column search.
+pub const SEARCH_LIMIT: u32 = 4096;

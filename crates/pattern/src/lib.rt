@@ -12,6 +12,7 @@ ghost use Rattle.pattern.specs.Answers.{number, searchEnd, columnOf};
 use floats::Way;
 use mania::Next;
 use mania::Stair;
+use model::limits::SEARCH_LIMIT;
 use random::Drawn;
 use random::Draws;
 use rules::numbers;
@@ -201,9 +202,6 @@ pub fn get_random_note_count(d: Draws, p2: f64, p3: f64, p4: f64, p5: f64, p6: f
 }
 
 // ---- the search
-
-// How many draws one search may make.
-pub const SEARCH_LIMIT: u32 = 4096;
 
 // The column after c, and after the last one the first.
 pub fn next_column(columns: u8, c: u8) -> u8

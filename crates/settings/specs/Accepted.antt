@@ -2,10 +2,10 @@
 use lib.Dec.{T}
 use Rattle.floats.specs.Range.{inRange}
 use Rattle.model.specs.declared.Settings.{Settings}
-use Rattle.mania.specs.Steps.{single#}
+use Rattle.model.specs.Limits.{settingRange}
 
 pub record Accepted (s : Settings) : Type 0 where
-  pub hp : T (inRange (single# 0) (single# 10) (s .hp))
-  pub cs : T (inRange (single# 0) (single# 10) (s .cs))
-  pub od : T (inRange (single# 0) (single# 10) (s .od))
-  pub ar : T (inRange (single# 0) (single# 10) (s .ar))
+  pub hp : T (inRange (settingRange .low) (settingRange .high) (s .hp))
+  pub cs : T (inRange (settingRange .low) (settingRange .high) (s .cs))
+  pub od : T (inRange (settingRange .low) (settingRange .high) (s .od))
+  pub ar : T (inRange (settingRange .low) (settingRange .high) (s .ar))

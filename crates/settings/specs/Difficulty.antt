@@ -17,7 +17,7 @@ use lib.Ieee.Exact.{HasValue}
 use lib.Ieee.Fits.{up-pos, down-pos}
 use lib.Ieee.Positive.{num, den}
 use lib.Ieee.Scale.{finite}
-use Rattle.model.specs.Limits.{mostEntries}
+use Rattle.model.specs.Limits.{mostEntries, mostDifficulty}
 use Rattle.floats.specs.Whole.{whole, rounded, signed}
 use Rattle.floats.specs.Laws.Values.{UpTo, le-not-lt, round-at-most}
 use Rattle.floats.specs.declared.Way.the-variants.{Cut}
@@ -218,7 +218,7 @@ negative-le m n e d h =
     go : (a b : ℕ) → 0 < b → 0 < a + b
     go a b k = omega arith
 
-not-above : (x : Float) → T (finite x) → lt (double 12 1) x ≡ false → T (le x (double 12 1))
+not-above : (x : Float) → T (finite x) → lt mostDifficulty x ≡ false → T (le x mostDifficulty)
 unfolding round
 not-above nan f h = absurd f
 not-above (inf s) f h = absurd f
@@ -231,19 +231,19 @@ not-above (fin false m e) f h =
 -- finite, and at most 12
 pub record Twelve (x : Float) : Type 0 where
   pub real : finite x ≡ true
-  pub most : le x (double 12 1) ≡ true
+  pub most : le x mostDifficulty ≡ true
 
-twelve : Twelve (double 12 1)
+twelve : Twelve mostDifficulty
 unfolding round le lt eq
 twelve = record { real = refl; most = refl }
 
-least-twelve : (x : Float) → T (finite x) → Twelve (least x (double 12 1))
+least-twelve : (x : Float) → T (finite x) → Twelve (least x mostDifficulty)
 unfolding least
-least-twelve x f = pick (lt (double 12 1) x) refl
+least-twelve x f = pick (lt mostDifficulty x) refl
   where
-    pick : (b : Bool) → lt (double 12 1) x ≡ b → Twelve (cond b (double 12 1) x)
+    pick : (b : Bool) → lt mostDifficulty x ≡ b → Twelve (cond b mostDifficulty x)
     pick true h = twelve
-    pick false h = record { real = is-true (finite x) f; most = is-true (le x (double 12 1)) (not-above x f h) }
+    pick false h = record { real = is-true (finite x) f; most = is-true (le x mostDifficulty) (not-above x f h) }
 
 -- a record has at most 4,095 objects
 pub difficulty-twelve : (s : Settings) (breaks first last : Float) (objects : ℕ) → Accepted s → objects ≤ mostEntries → Twelve (difficultyOf s breaks first last objects)

@@ -7,7 +7,7 @@ use mathlib.Core.Bool.{Bool, true, false}
 use mathlib.Core.Logic.{_⊎_, inl, inr}
 use borrow.Author.Tests.{leb-true, leb-false, le-leb, lt-leb}
 use lib.Dec.{T, leb, lit≤}
-use lib.Ieee.{Float, binary32, ofInt, round, add, mul}
+use lib.Ieee.{Float, binary32, round, add, mul}
 use lib.Ieee.Positive.{num, den, den-pos}
 use Rattle.floats.specs.Whole.{count}
 use Rattle.floats.specs.Range.{inRange}
@@ -16,7 +16,8 @@ use Rattle.floats.specs.Laws.Ranges.{in-sized, in-high}
 use Rattle.floats.specs.Laws.Wholes.{count-le, count-lt}
 use Rattle.floats.specs.declared.Way.the-variants.{Cut, Even}
 use Rattle.model.specs.declared.Settings.{Settings}
-use Rattle.mania.specs.Steps.{single, single#}
+use Rattle.model.specs.Limits.{settingRange}
+use Rattle.mania.specs.Steps.{single}
 use Rattle.mania.specs.Convert.{columnsByShare, columnsAt}
 use Rattle.settings.specs.Accepted.{Accepted}
 
@@ -37,17 +38,21 @@ columns-between long objects cs low high od h k = go (leb 5 cs) refl
 
 -- ---- the seed of an accepted record
 
-ten : Sized (single# 10)
-unfolding ofInt round
-ten = (refl, refl)
+highest : Sized (settingRange .high)
+unfolding round
+highest = (refl, refl)
 
-none : Sized (single# 0)
-unfolding ofInt round
-none = (refl, refl)
+lowest : Sized (settingRange .low)
+unfolding round
+lowest = (refl, refl)
 
-pub at-most-ten : (x : Float) → T (inRange (single# 0) (single# 10) x) → UpTo 10 x
-unfolding ofInt round
-at-most-ten x h = record { size = in-sized (single# 0) (single# 10) x none ten h; high = le-trans (le-of-eq (sym (mul-one (num x)))) (in-high (single# 0) (single# 10) x none ten h) }
+pub at-most-ten : (x : Float) → T (inRange (settingRange .low) (settingRange .high) x) → UpTo 10 x
+unfolding round
+at-most-ten x h =
+    record {
+      size = in-sized (settingRange .low) (settingRange .high) x lowest highest h;
+      high = le-trans (le-of-eq (sym (mul-one (num x)))) (in-high (settingRange .low) (settingRange .high) x lowest highest h);
+    }
 
 sum-le : (x y : Float) → UpTo 10 x → UpTo 10 y → count Even (add binary32 x y) ≤ 20
 sum-le x y h k =

@@ -8,6 +8,7 @@ ghost use Rattle.mania.specs.PatternGenerator.{orTenThousand, drainTime, diffic
 ghost use Rattle.settings.specs.Accepted.{Accepted};
 use floats::Way;
 use model::Settings;
+use model::limits::MOST_DIFFICULTY;
 
 // The first seed word.
 pub fn seed(s: Settings) -> u32
@@ -110,5 +111,5 @@ pub fn conversion_difficulty(s: Settings, breaks: f64, first: f64, last: f64, ob
     let drain = drain_time(breaks, first, last);
     let life = std::num::f32_to_f64_with_nan(s.hp + floats::clamp_f32(4.0, 7.0, s.ar)) / 1.5;
     let pace = (objects as f64) / (drain as f64) * 9.0;
-    floats::min((life + pace) / 38.0 * 5.0 / 1.15, 12.0)
+    floats::min((life + pace) / 38.0 * 5.0 / 1.15, MOST_DIFFICULTY)
 }

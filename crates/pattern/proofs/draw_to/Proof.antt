@@ -9,7 +9,8 @@ use Rattle.random.specs.declared.Draws.{Draws}
 use Rattle.random.specs.Answers.{drawn}
 use Rattle.random.specs.Laws.Took.{took-small}
 use Rattle.random.specs.Laws.Range.{between-lt}
-use Rattle.mania.specs.PatternGenerator.{searchLimit, drawTo}
+use Rattle.model.specs.Limits.{searchLimit}
+use Rattle.mania.specs.PatternGenerator.{drawTo}
 use Rattle.pattern.specs.Laws.Searches.{drawOn, draw-start, draw-hit, draw-miss, draw-out, draw-over}
 use Rattle.pattern.proofs.draw_to.Statement.{statement}
 use Rattle.pattern.proofs.draw_to.Tie as tie

@@ -23,7 +23,8 @@ use Rattle.mania.specs.Pattern.{free, anyFree}
 use lib.Ieee.{Float}
 use Rattle.mania.specs.ManiaObject.{column}
 use Rattle.pattern.specs.Laws.Bounds.{drawn-lt}
-use Rattle.mania.specs.PatternGenerator.{randomStart, getColumn, getRandomColumn, Searched, undrawn, searchLimit, nextColumn, stepTo, drawTo, searchOn, columnSearch, findAvailableColumn}
+use Rattle.model.specs.Limits.{searchLimit}
+use Rattle.mania.specs.PatternGenerator.{randomStart, getColumn, getRandomColumn, Searched, undrawn, nextColumn, stepTo, drawTo, searchOn, columnSearch, findAvailableColumn}
 
 -- ---- whether a column is free
 
