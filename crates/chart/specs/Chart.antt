@@ -154,3 +154,15 @@ noteIn s i = cond (leb (chartSize i + noteSize) (length s)) (some (noteOf (drop 
 abbrev pub found : Found → Option Note
 found (At n) = some n
 found Nothing = none
+
+-- the notes of a chart; of other bytes none
+unfoldable pub notesRead : Option Score → List Note
+notesRead none = []
+notesRead (some c) = c .notes
+
+abbrev pub notesIn : List ℕ → List Note
+notesIn s = notesRead (decode s)
+
+-- in place of a note, past the end of a list
+abbrev pub blank : Note
+blank = record { column = 0; hold = false; start = 0; duration = 0 }

@@ -18,13 +18,13 @@ use Rattle.rules.specs.Numbers as Numbers
 use Rattle.chart.specs.declared.Note.{Note}
 use Rattle.chart.specs.Time.{time}
 use Rattle.chart.specs.Tests.{either-way, never}
-use Rattle.chart.specs.Chart.{Score, decode}
+use Rattle.chart.specs.Chart.{Score, decode, blank}
 use Rattle.chart.specs.Laws.Times.{le-or-lt}
 use Rattle.chart.specs.Laws.Reader.{notes-ok, notes-times}
 use Rattle.exact_times.specs.Instants.{instant, distance}
 use Rattle.exact_times.specs.Laws.Instants.{ticks-le}
 use Rattle.chart_lookup.specs.declared.Wanted.{Wanted}
-use Rattle.chart_lookup.specs.Lookup.{Outcome, refused, nothing, found, timesOk, wanted, places, filled, counted, given, listed, looked, listing, blank}
+use Rattle.chart_lookup.specs.Lookup.{Outcome, refused, nothing, found, timesOk, wanted, places, filled, counted, given, listed, looked, listing}
 use Rattle.chart_lookup.specs.Nearest.{away, nearest, placed, seeking, soughtIn, sought}
 use Rattle.chart_lookup.specs.Laws.Notes.{starts-rise}
 use Rattle.chart_lookup.specs.Laws.Places.{none-found}

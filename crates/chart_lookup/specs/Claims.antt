@@ -13,10 +13,10 @@ use lib.Ieee.Scale.{finite}
 use Rattle.floats.specs.Ticks.{ticks}
 use Rattle.chart.specs.declared.Note.{Note}
 use Rattle.chart.specs.Time.{time}
-use Rattle.chart.specs.Chart.{Score, decode}
+use Rattle.chart.specs.Chart.{Score, decode, blank}
 use Rattle.exact_times.specs.Instants.{instant}
 use Rattle.chart_lookup.specs.declared.Wanted.{Wanted}
-use Rattle.chart_lookup.specs.Lookup.{refused, nothing, found, timesOk, wanted, given, listing, blank}
+use Rattle.chart_lookup.specs.Lookup.{refused, nothing, found, timesOk, wanted, given, listing}
 use Rattle.chart_lookup.specs.Nearest.{away, sought}
 
 -- a list that rises, from at least l on

@@ -1,6 +1,6 @@
 -- The lookups of notes around a moment.
 -- Assumes nothing.
-use mathlib.Core.Bool.{Bool, false, not, _&&_, cond}
+use mathlib.Core.Bool.{Bool, not, _&&_, cond}
 use mathlib.Core.List.{List, [], _∷_, _++_}
 use mathlib.Core.Option.{Option, none, some}
 use Prim.Native.Nat.{ℕ, suc, _+_}
@@ -72,16 +72,3 @@ looked (some c) w list = listed w (c .notes) list
 
 unfoldable pub listing : List ℕ → Wanted → List ℕ → Outcome × List ℕ
 listing s w list = looked (decode s) w list
-
--- ---- for the contracts of parts of a lookup
-
-unfoldable pub notesRead : Option Score → List Note
-notesRead none = []
-notesRead (some c) = c .notes
-
--- the notes of a chart; of other bytes none
-abbrev pub notesIn : List ℕ → List Note
-notesIn s = notesRead (decode s)
-
-abbrev pub blank : Note
-blank = record { column = 0; hold = false; start = 0; duration = 0 }

@@ -8,7 +8,8 @@ use lib.ListN.{length, getD, drop}
 use lib.Ieee.{Float}
 use Rattle.chart.specs.declared.Note.{Note}
 use Rattle.chart_lookup.specs.declared.Wanted.the-variants.{Covering}
-use Rattle.chart_lookup.specs.Lookup.{wanted, places, notesIn, blank}
+use Rattle.chart.specs.Chart.{notesIn, blank}
+use Rattle.chart_lookup.specs.Lookup.{wanted, places}
 
 -- the first k notes are those that start before a bit pattern
 pub record Parts (ns : List Note) (pattern k : ℕ) : Type 0 where

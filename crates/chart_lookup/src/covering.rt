@@ -1,7 +1,7 @@
 // The holds that cover an instant.
 use crate::Listed;
-use crate::starts::note_of;
 use crate::starts::starting_before;
+use chart_reader::note_of;
 use exact_times::moments::covers;
 use exact_times::moments::first_after;
 use rules::numbers;
@@ -11,7 +11,8 @@ ghost use Prim.Native.Nat.{_≤_, _<_};
 ghost use lib.ListN.{length, getD};
 ghost use lib.Ieee.Scale.{finite};
 ghost use Rattle.chart_lookup.specs.declared.Wanted.the-variants.{Covering};
-ghost use Rattle.chart_lookup.specs.Lookup.{wanted, places, notesIn, blank, filled, given, told};
+ghost use Rattle.chart.specs.Chart.{notesIn, blank};
+ghost use Rattle.chart_lookup.specs.Lookup.{wanted, places, filled, given, told};
 ghost use Rattle.chart_lookup.specs.Search.{Stretch, heldFrom};
 
 // Whether the note of a place is a hold that covers an instant. Most notes end before it, circles too, so the kind is looked at last.

@@ -12,7 +12,8 @@ use floats::is_finite;
 use rules::numbers;
 ghost use mathlib.Core.Path.{_≡_};
 ghost use lib.ListN.{length};
-ghost use Rattle.chart_lookup.specs.Lookup.{timesOk, notesIn, listed, listing, told};
+ghost use Rattle.chart.specs.Chart.{notesIn};
+ghost use Rattle.chart_lookup.specs.Lookup.{timesOk, listed, listing, told};
 
 // Which notes a list lookup asks for: those that start within two times, ends included; or the holds that cover an instant.
 pub enum Wanted {

@@ -1,7 +1,7 @@
 // The note of a column whose start is nearest to a time.
-use crate::starts::note_of;
 use crate::starts::starting_before;
 use chart::Answer;
+use chart_reader::note_of;
 use chart_reader::read;
 use exact_times::moments::first_at;
 use exact_times::moments::nearer;
@@ -15,7 +15,7 @@ ghost use lib.Dec.{ltb};
 ghost use lib.ListN.{length, getD};
 ghost use lib.Ieee.Scale.{finite};
 ghost use Rattle.exact_times.specs.Instants.{instant};
-ghost use Rattle.chart_lookup.specs.Lookup.{notesIn, blank};
+ghost use Rattle.chart.specs.Chart.{notesIn, blank};
 ghost use Rattle.chart_lookup.specs.Nearest.{away, nearest, placed, seeking, sought, told};
 ghost use Rattle.chart_lookup.specs.Search.{Next, Last};
 

@@ -10,7 +10,8 @@ ghost use Prim.Native.Nat.{_+_, _^_, _≤_, _<_};
 ghost use lib.ListN.{length};
 ghost use lib.Ieee.Scale.{finite};
 ghost use Rattle.chart_lookup.specs.declared.Wanted.the-variants.{Starting};
-ghost use Rattle.chart_lookup.specs.Lookup.{wanted, places, notesIn, filled, given, told};
+ghost use Rattle.chart.specs.Chart.{notesIn};
+ghost use Rattle.chart_lookup.specs.Lookup.{wanted, places, filled, given, told};
 ghost use Rattle.chart_lookup.specs.Search.{run};
 
 // Writes consecutive places. Later entries keep their values.

@@ -12,7 +12,8 @@ use chart::rows::note_at;
 use floats::format::INFINITY;
 ghost use mathlib.Core.Path.{_≡_};
 ghost use Prim.Native.Nat.{_<_};
-ghost use Rattle.chart.specs.Chart.{okHead, okNote, lasts, reading, meaning, noteIn, found};
+ghost use lib.ListN.{length, getD};
+ghost use Rattle.chart.specs.Chart.{okHead, okNote, lasts, reading, meaning, noteIn, found, notesIn, blank};
 ghost use Rattle.floats.specs.Format.{infinity};
 
 // A hold lasts; the duration of a circle is zero bits.
@@ -104,4 +105,20 @@ pub fn note(chart: &[u8], index: u32) -> Found
         return Found::Nothing;
     }
     Found::At(note_at(chart, at))
+}
+
+// The note of a place in a chart that was read.
+pub fn note_of(chart: &[u8], place: u32) -> Note
+    requires { ⌜ place < length (notesIn (now chart)) ⌝ }
+    ensures { λ r. ⌜ r ≡ getD (notesIn (now (chart .entry))) place blank ⌝ }
+{
+    match note(chart, place) {
+        Found::At(n) => n,
+        Found::Nothing => Note {
+            column: 0,
+            hold: false,
+            start: 0,
+            duration: 0,
+        },
+    }
 }

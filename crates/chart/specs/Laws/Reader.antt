@@ -17,7 +17,7 @@ use Rattle.chart.specs.Layout.{chartSize, noteSize}
 use Rattle.chart.specs.declared.Note.{Note}
 use Rattle.chart.specs.Tests.{every, passes, fails, both}
 use Rattle.chart.specs.Time.{time, isTime, latest}
-use Rattle.chart.specs.Chart.{Score, refused, accepted, reading, readingOf, columnsOf, countOf, decode, drawsOf, headTests, lasts, noteIn, noteOf, notesOf, noteTests, okChart, okHead, okNote, okNotes, okRow, okRows, scoreOf}
+use Rattle.chart.specs.Chart.{Score, refused, accepted, reading, readingOf, columnsOf, countOf, decode, drawsOf, headTests, lasts, noteIn, noteOf, notesOf, noteTests, okChart, okHead, okNote, okNotes, okRow, okRows, scoreOf, notesRead, notesIn, blank}
 use Rattle.floats.specs.Format.{infinity}
 use Rattle.chart.specs.Laws.Times.{time-fits}
 use Rattle.chart.specs.Laws.Notes.{length-notesOf, notes-at}
@@ -147,3 +147,16 @@ pub refused-none : (o : Option Score) (n : ℕ) → refused n ≡ readingOf o �
 unfolding readingOf
 refused-none none n e = refl
 refused-none (some c) n e = absurd (let y : _≡_ {A = ℕ} 0 1 = cc in omega arith)
+
+-- ---- a note of a place
+
+module _ (s : List ℕ) (i : ℕ) where
+  known : (o : Option Score) → decode s ≡ o → i < length (notesRead o)
+      → (noteIn s i ≡ some (getD (notesRead o) i blank)) × ((getD (notesRead o) i blank .start < infinity) × (getD (notesRead o) i blank .duration < infinity))
+  unfolding notesRead
+  known none e l = absurd (omega arith)
+  known (some c) e l = (note-read s c e i blank l, notes-times (c .columns) 0 (c .notes) (notes-ok s c e) i blank l)
+
+  pub note-known : i < length (notesIn s) → (noteIn s i ≡ some (getD (notesIn s) i blank))
+      × ((getD (notesIn s) i blank .start < infinity) × (getD (notesIn s) i blank .duration < infinity))
+  note-known l = known (decode s) refl l

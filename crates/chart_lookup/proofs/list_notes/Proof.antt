@@ -5,10 +5,10 @@ use mathlib.Core.Path.{_≡_, sym, ap, _∙_}
 use mathlib.Core.List.{List}
 use Prim.Native.Nat.{ℕ}
 use lib.ListN.{length}
-use Rattle.chart.specs.Chart.{meaning, decode, reading}
+use Rattle.chart.specs.Chart.{meaning, decode, reading, notesIn}
 use Rattle.chart.specs.Laws.Reader.{refused-none}
 use Rattle.chart_lookup.specs.declared.Wanted.{Wanted}
-use Rattle.chart_lookup.specs.Lookup.{listed, listing, looked, notesIn}
+use Rattle.chart_lookup.specs.Lookup.{listed, listing, looked}
 use Rattle.chart_lookup.specs.Laws.Notes.{read-notes}
 use Rattle.chart_lookup.proofs.list_notes.Statement.{statement}
 use Rattle.chart_lookup.proofs.list_notes.Tie as tie

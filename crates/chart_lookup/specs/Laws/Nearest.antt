@@ -21,9 +21,11 @@ use Rattle.chart.specs.Time.{time}
 use Rattle.floats.specs.Format.{infinity}
 use Rattle.chart.specs.Laws.Times.{ticks-mono, le-or-lt}
 use Rattle.exact_times.specs.Laws.Instants.{ticks-le, farther-after, farther-before, strictly-farther}
-use Rattle.chart_lookup.specs.Lookup.{nothing, found, notesIn, blank}
+use Rattle.chart.specs.Chart.{notesIn, blank}
+use Rattle.chart_lookup.specs.Lookup.{nothing, found}
 use Rattle.chart_lookup.specs.Search.{Parts, Next, Last}
-use Rattle.chart_lookup.specs.Laws.Notes.{note-known, rise}
+use Rattle.chart.specs.Laws.Reader.{note-known}
+use Rattle.chart_lookup.specs.Laws.Notes.{rise}
 use Rattle.chart_lookup.specs.Nearest.{away, better, taken, nearest, placed}
 
 module _ (column : ℕ) (t : ℤ) (best : Option (ℕ × ℕ)) (ns : List Note) (i : ℕ) where

@@ -12,12 +12,12 @@ use lib.ListN.{length, getD}
 use borrow.Author.Tests.{leb-true}
 use Rattle.chart.specs.declared.Note.{Note}
 use Rattle.chart.specs.Tests.{both, passes}
-use Rattle.chart.specs.Chart.{Score, accepted, readingOf, decode, noteIn, okNote, okNotes, noteTests}
+use Rattle.chart.specs.Chart.{Score, accepted, readingOf, decode, noteIn, okNote, okNotes, noteTests, notesRead, notesIn, blank}
 use Rattle.floats.specs.Format.{infinity}
 use Rattle.chart.specs.Laws.Times.{ticks-leb}
 use Rattle.chart.specs.Laws.Reader.{notes-ok, note-fits, note-read, notes-times}
 use Rattle.chart_lookup.specs.declared.Wanted.{Wanted}
-use Rattle.chart_lookup.specs.Lookup.{listed, looked, notesRead, notesIn, blank}
+use Rattle.chart_lookup.specs.Lookup.{listed, looked}
 use Rattle.chart_lookup.specs.Nearest.{seeking, soughtIn}
 
 -- ---- starts never fall
@@ -51,19 +51,6 @@ module _ (s : List ℕ) where
 
   pub rise : (i j : ℕ) → i ≤ j → j < length (notesIn s) → getD (notesIn s) i blank .start ≤ getD (notesIn s) j blank .start
   rise i j h k = rise-in (decode s) refl i j h k
-
--- ---- a note of a place
-
-module _ (s : List ℕ) (i : ℕ) where
-  known : (o : Option Score) → decode s ≡ o → i < length (notesRead o)
-      → (noteIn s i ≡ some (getD (notesRead o) i blank)) × ((getD (notesRead o) i blank .start < infinity) × (getD (notesRead o) i blank .duration < infinity))
-  unfolding notesRead
-  known none e l = absurd (omega arith)
-  known (some c) e l = (note-read s c e i blank l, notes-times (c .columns) 0 (c .notes) (notes-ok s c e) i blank l)
-
-  pub note-known : i < length (notesIn s) → (noteIn s i ≡ some (getD (notesIn s) i blank))
-      × ((getD (notesIn s) i blank .start < infinity) × (getD (notesIn s) i blank .duration < infinity))
-  note-known l = known (decode s) refl l
 
 -- ---- what the reader's answer says
 

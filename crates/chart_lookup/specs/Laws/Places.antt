@@ -11,7 +11,8 @@ use lib.Seq.{drop-cons, drop-drop, drop-set-lt, length-take-le, take-suc-set}
 use borrow.Author.Tests.{le-leb, lt-leb}
 use Rattle.rules.specs.Numbers as Numbers
 use Rattle.chart.specs.declared.Note.{Note}
-use Rattle.chart_lookup.specs.Lookup.{refused, nothing, found, places, filled, counted, given, blank}
+use Rattle.chart.specs.Chart.{blank}
+use Rattle.chart_lookup.specs.Lookup.{refused, nothing, found, places, filled, counted, given}
 use Rattle.chart_lookup.specs.Search.{NoneFrom, run}
 
 -- ---- places from an index on

@@ -17,9 +17,10 @@ use Rattle.chart.specs.Laws.Times.{le-or-lt}
 use Rattle.exact_times.specs.Instants.{coversAt, FirstAt, FirstAfter}
 use Rattle.exact_times.specs.Laws.Instants.{le-instant, instant-le}
 use Rattle.chart_lookup.specs.declared.Wanted.the-variants.{Starting, Covering}
-use Rattle.chart_lookup.specs.Lookup.{wanted, places, notesIn, blank}
+use Rattle.chart.specs.Chart.{notesIn, blank}
+use Rattle.chart_lookup.specs.Lookup.{wanted, places}
 use Rattle.chart_lookup.specs.Search.{Parts, NoneFrom, run}
-use Rattle.chart_lookup.specs.Laws.Notes.{note-known}
+use Rattle.chart.specs.Laws.Reader.{note-known}
 use Rattle.chart_lookup.specs.Laws.Places.{places-skip, places-none, places-run}
 
 module _ (s : List ℕ) (from to : Float) (fit-from : T (fits binary64 from)) (fit-to : T (fits binary64 to)) (ok-from : finite from ≡ true) (ok-to : finite to ≡ true)

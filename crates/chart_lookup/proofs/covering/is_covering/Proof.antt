@@ -4,7 +4,7 @@ use borrow.Author.Needs.{needs}
 use mathlib.Core.Path.{sym, _∙_}
 use mathlib.Core.Bool.{and-true, and-false}
 use Rattle.chart_lookup.specs.Lookup.{wanted}
-use Rattle.chart_lookup.specs.Laws.Notes.{note-known}
+use Rattle.chart.specs.Laws.Reader.{note-known}
 use Rattle.chart_lookup.proofs.covering.is_covering.Statement.{statement}
 use Rattle.chart_lookup.proofs.covering.is_covering.Tie as tie
 

@@ -6,7 +6,8 @@ use mathlib.Core.List.{List}
 use Prim.Native.Nat.{ℕ}
 use lib.ListN.{length}
 use Rattle.chart_lookup.specs.declared.Wanted.the-variants.{Covering}
-use Rattle.chart_lookup.specs.Lookup.{wanted, notesIn}
+use Rattle.chart.specs.Chart.{notesIn}
+use Rattle.chart_lookup.specs.Lookup.{wanted}
 use Rattle.chart_lookup.specs.Search.{Stretch, heldFrom}
 use Rattle.chart_lookup.specs.Laws.Places.{none-found, too-many, some-found}
 use Rattle.chart_lookup.specs.Laws.Wanted.{none-covers}

@@ -5,9 +5,9 @@ use Prim.Native.Nat.{_<_}
 use borrow.Author.Needs.{needs}
 use lib.ListN.{length}
 use borrow.Author.Tests.{le-ltb, lt-ltb}
-use Rattle.chart_lookup.specs.Lookup.{notesIn}
+use Rattle.chart.specs.Chart.{notesIn}
 use Rattle.chart_lookup.specs.Nearest.{away}
-use Rattle.chart_lookup.specs.Laws.Notes.{note-known}
+use Rattle.chart.specs.Laws.Reader.{note-known}
 use Rattle.chart_lookup.proofs.nearest.is_nearer.Statement.{statement}
 use Rattle.chart_lookup.proofs.nearest.is_nearer.Tie as tie
 

@@ -8,7 +8,7 @@ use borrow.Author.Needs.{needs}
 use lib.ListN.{getD}
 use Rattle.chart.specs.declared.Note.{Note}
 use Rattle.chart.specs.Laws.Times.{le-or-lt}
-use Rattle.chart_lookup.specs.Lookup.{notesIn, blank}
+use Rattle.chart.specs.Chart.{notesIn, blank}
 use Rattle.chart_lookup.proofs.nearest.last_of.Statement.{statement}
 use Rattle.chart_lookup.proofs.nearest.last_of.Tie as tie
 

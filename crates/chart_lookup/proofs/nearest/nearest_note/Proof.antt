@@ -5,9 +5,8 @@ use mathlib.Core.Path.{_≡_, sym, ap, _∙_}
 use Prim.Native.Nat.{ℕ}
 use lib.ListN.{length}
 use lib.Ieee.{Float}
-use Rattle.chart.specs.Chart.{meaning, decode, reading}
+use Rattle.chart.specs.Chart.{meaning, decode, reading, notesIn}
 use Rattle.chart.specs.Laws.Reader.{refused-none}
-use Rattle.chart_lookup.specs.Lookup.{notesIn}
 use Rattle.chart_lookup.specs.Nearest.{seeking, soughtIn, sought}
 use Rattle.chart_lookup.specs.Laws.Notes.{read-columns}
 use Rattle.chart_lookup.proofs.nearest.nearest_note.Statement.{statement}

@@ -9,7 +9,7 @@ use lib.ListN.{getD}
 use borrow.Author.Tests.{ltb-true, ltb-false, lt-ltb}
 use Rattle.chart.specs.Tests.{both}
 use Rattle.exact_times.specs.Instants.{instant, FirstAt}
-use Rattle.chart_lookup.specs.Lookup.{notesIn, blank}
+use Rattle.chart.specs.Chart.{notesIn, blank}
 use Rattle.chart_lookup.specs.Nearest.{away}
 use Rattle.chart_lookup.specs.Laws.Nearest.{is-nearest, is-nothing, no-note, only-next, next-nearer, last-nearer}
 use Rattle.chart_lookup.proofs.nearest.nearest_of.Statement.{statement}

@@ -6,7 +6,7 @@ use native.Mathlib.Omega.{arith}
 use borrow.Author.Needs.{needs}
 use lib.ListN.{length, getD}
 use Rattle.chart.specs.declared.Note.{Note}
-use Rattle.chart_lookup.specs.Lookup.{notesIn, blank}
+use Rattle.chart.specs.Chart.{notesIn, blank}
 use Rattle.chart_lookup.specs.Laws.Nearest.{one-more}
 use Rattle.chart_lookup.proofs.nearest.next_of.Statement.{statement}
 use Rattle.chart_lookup.proofs.nearest.next_of.Tie as tie

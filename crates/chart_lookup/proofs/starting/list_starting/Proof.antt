@@ -7,7 +7,8 @@ use Prim.Native.Nat.{ℕ, _-_}
 use native.Mathlib.Omega.{arith}
 use lib.ListN.{length}
 use Rattle.chart_lookup.specs.declared.Wanted.the-variants.{Starting}
-use Rattle.chart_lookup.specs.Lookup.{wanted, places, notesIn}
+use Rattle.chart.specs.Chart.{notesIn}
+use Rattle.chart_lookup.specs.Lookup.{wanted, places}
 use Rattle.chart_lookup.specs.Search.{run}
 use Rattle.chart_lookup.specs.Laws.Places.{length-run, none-found, too-many, some-found}
 use Rattle.chart_lookup.specs.Laws.Wanted.{none-between, all-between}

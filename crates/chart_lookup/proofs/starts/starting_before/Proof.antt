@@ -6,7 +6,7 @@ use native.Mathlib.Nat.{le-trans, lt-of-le-of-lt}
 use native.Mathlib.Omega.{arith}
 use borrow.Author.Needs.{needs}
 use lib.ListN.{length, getD}
-use Rattle.chart_lookup.specs.Lookup.{notesIn, blank}
+use Rattle.chart.specs.Chart.{notesIn, blank}
 use Rattle.chart_lookup.specs.Laws.Notes.{rise}
 use Rattle.chart_lookup.proofs.starts.starting_before.Statement.{statement}
 use Rattle.chart_lookup.proofs.starts.starting_before.Tie as tie

@@ -1,4 +1,4 @@
--- `chart_lookup::starts::note_of` meets its contract: the note of that place is there.
+-- `chart_reader::note_of` meets its contract: the note of that place is there.
 -- Assumes nothing.
 use borrow.Author.Needs.{needs}
 use mathlib.Core.Path.{_≡_, sym, ap, _∙_}
@@ -7,9 +7,9 @@ use Prim.Native.Nat.{ℕ}
 use native.Mathlib.Omega.{arith}
 use Rattle.chart.specs.declared.Note.{Note}
 use Rattle.chart.specs.Chart.{found}
-use Rattle.chart_lookup.specs.Laws.Notes.{note-known}
-use Rattle.chart_lookup.proofs.starts.note_of.Statement.{statement}
-use Rattle.chart_lookup.proofs.starts.note_of.Tie as tie
+use Rattle.chart.specs.Laws.Reader.{note-known}
+use Rattle.chart_reader.proofs.note_of.Statement.{statement}
+use Rattle.chart_reader.proofs.note_of.Tie as tie
 
 note-requires : tie.Need-note-requires
 note-requires c κs = search needs
