@@ -18,7 +18,6 @@ use Rattle.record.specs.Section.{sectionRefusal}
 use Rattle.record.specs.Object.{objectsRefusal}
 use Rattle.record.specs.Record.{placesOf, listsRefusal, fillRefusal, recordRefusal, recordEnd, songOf, accepted, refused, parsedBy, parse}
 use Rattle.record.specs.Fields.{sectionFields, objectsFields}
-use Rattle.record.specs.Laws.Accepted as Read
 use Rattle.record.specs.Laws.Ranges.{fit-song}
 use Rattle.record.specs.Laws.Refusals.{Gives, header-gives, section-gives, objects-gives, section-is, objects-are}
 use Rattle.model.specs.Song.{Song}
@@ -86,12 +85,6 @@ some-number (suc m) n song h e = let z : suc m ≡ n = cc in (omega arith, omega
 pub refused-number : (s : List ℕ) (n : ℕ) → parse s ≡ refused n → (1 ≤ n) × (n ≤ 7)
 unfolding parse
 refused-number s n e = some-number (recordRefusal s) n (songOf s) (record-number s) e
-
-pub refused-none : (s : List ℕ) (n : ℕ) → parse s ≡ refused n → recordRefusal s ≡ n
-refused-none s n e = Read.refused-number s n e
-
-pub accepted-none : (s : List ℕ) (g : Song) → parse s ≡ accepted g → recordRefusal s ≡ 0
-accepted-none s g e = Read.accepted-none s g e .0
 
 pub accepted-keys : (s : List ℕ) (g : Song) → parse s ≡ accepted g → g .keys ≤ 9
 accepted-keys s g e = fit-song s g e .keys

@@ -1,36 +1,42 @@
--- What is true where a job is refused. Assumes nothing.
-use mathlib.Core.Path.{_≡_, refl, sym, ap, _∙_, subst}
+-- When a job is refused. Assumes nothing.
+use mathlib.Core.Path.{_≡_, refl, sym, ap, ap₂, _∙_, subst}
 use mathlib.Core.Logic.{_⊎_, inl, inr}
-use Prim.Native.Nat.{ℕ, _≤_}
+use Prim.Native.Nat.{ℕ, zero, suc, _+_, _-_, _≤_, _<_}
 use native.Mathlib.Omega.{arith}
+use mathlib.Core.Bool.{Bool, true, false}
 use mathlib.Core.List.{List}
+use lib.Dec.{leb}
 use lib.ListN.{length, replicate}
+use borrow.Author.Tests.{leb-true, leb-false}
 use Rattle.rules.specs.Rule.{Outcome, ended, spent}
 use Rattle.rules.specs.Rule as Rule
 use Rattle.rules.specs.Refusal.{Refusal, lateEnd, noColumn, offDeck, tooShort, longSearch}
 use Rattle.rules.specs.Refusal as Refusal
-use Rattle.rules.specs.Ledger.{Ledger}
+use Rattle.rules.specs.Ledger.{Ledger, largest}
 use Rattle.rules.specs.Limited.{lastOr}
 use Rattle.random.specs.Generator.{seeded}
 use Rattle.random.specs.Laws.Allowance.{lawful}
 use Rattle.model.specs.Song.{Song}
 use Rattle.mania.specs.declared.Note.{Note}
 use Rattle.mania.specs.Convert.{AtObject, at, seed, columnsOf, convert}
-use Rattle.mania.specs.Refusals.{InWalk}
-use Rattle.mania.specs.Job.{Answer, refusal, ending, refusing, under, ledgerUnder}
+use Rattle.mania.specs.Refusals.{InWalk, TooLong}
+use Rattle.mania.specs.Job.{Answer, refusal, Job, ending, refusing, under, ledgerUnder}
 use Rattle.mania.specs.Job as OfSong
 use Rattle.mania.proofs.Eleven.{job-eleven}
 use Rattle.mania.proofs.Limits.{job-long}
 use Rattle.mania.proofs.Meets.{refused-meets}
 use Rattle.mania.proofs.Reach.{convert-ends, reasons}
 use Rattle.mania.proofs.Eight.{job-eight}
+use Rattle.mania.proofs.Refuses.{eight-refuses, eleven-refuses, short-refuses}
 use Rattle.mania.proofs.Demand.{few-columns}
 use Rattle.record.specs.Record.{Parsed, refused, accepted, parse}
+use Rattle.record.specs.Fields.{FirstFailing}
+use Rattle.record.specs.Laws.Refusals.{refused-first, first-refused, accepted-pass}
+use Rattle.chart.specs.Layout.{headerSize}
 use Rattle.job.specs.Job.{jobOf, job, ledgerOf, ledger}
 use Rattle.job.specs.Refusals.{Condition, Refusals}
 use Rattle.job.specs.NeverBlocked.{NeverBlocked}
-use Rattle.job.proofs.Numbers.{accepted-none, refused-none, refused-number}
-use Rattle.job.proofs.Numbers.{accepted-keys}
+use Rattle.job.proofs.Numbers.{refused-number, accepted-keys}
 use Rattle.job.proofs.Demand.{refuses, number, index, count}
 
 -- the numbers of the refusals of a walk
@@ -116,7 +122,7 @@ module _ (bytes buffer : List ℕ) (s : Song) (p : parse bytes ≡ accepted s) (
         from = omega (arith, in-table .0);
         to = subst (λ (k : ℕ). (k ≤ 12) ⊎ (k ≡ 16)) is (up-to (Refusal.number (x .refusal)) (in-table .1));
         unread = λ h. absurd (omega (arith, in-table .0));
-        whole = λ h. accepted-none bytes s p;
+        whole = λ h. accepted-pass bytes s p;
         late = λ h. (s, p, job-eight s deck buffer a i n (u ∙ outcome lateEnd x m r i n e (is-late (x .refusal) (is ∙ h))));
         not-9 = λ h. in-walk .found (is-blocked (x .refusal) (is ∙ h));
         not-10 = λ h. in-walk .on (is-off (x .refusal) (is ∙ h));
@@ -131,7 +137,7 @@ module _ (bytes buffer : List ℕ) (s : Song) (p : parse bytes ≡ accepted s) (
         from = omega arith;
         to = inl (omega arith);
         unread = λ h. absurd (omega arith);
-        whole = λ h. accepted-none bytes s p;
+        whole = λ h. accepted-pass bytes s p;
         late = λ h. absurd (omega arith);
         not-9 = λ h. omega arith;
         not-10 = λ h. omega arith;
@@ -149,7 +155,7 @@ of-parsed bytes buffer (refused m) p a r i n e =
     record {
       from = omega (arith, small .0);
       to = inl (omega (arith, small .1));
-      unread = λ k. (refused-none bytes m p ∙ is, sym (ap index e), sym (ap count e));
+      unread = λ k. (subst (FirstFailing bytes) is (refused-first bytes m p), sym (ap index e), sym (ap count e));
       whole = λ k. absurd (omega (arith, small .1));
       late = λ k. absurd (omega (arith, small .1));
       not-9 = λ k. omega (arith, small .1);
@@ -169,6 +175,79 @@ refused-by : (bytes buffer : List ℕ) (a r i n : ℕ) → job bytes buffer a .a
 unfolding job
 refused-by bytes buffer a r i n e = of-parsed bytes buffer (parse bytes) refl a r i n e
 
+-- ---- where a condition holds, the job is refused so
+
+-- the numbers one by one
+data Number (r : ℕ) : Type 0 where
+  unread : r ≤ 7 → Number r
+  late : r ≡ 8 → Number r
+  blocked : r ≡ 9 → Number r
+  below : r ≡ 10 → Number r
+  short : r ≡ 11 → Number r
+  drawn : r ≡ 12 → Number r
+  long : r ≡ 16 → Number r
+
+which : (r : ℕ) → (r ≤ 12) ⊎ (r ≡ 16) → Number r
+which r (inr e) = long e
+which r (inl h) = go (leb r 7) refl
+  where
+    past : (k : ℕ) → r ≡ 8 + k → Number r
+    past zero e = late (omega arith)
+    past (suc zero) e = blocked (omega arith)
+    past (suc (suc zero)) e = below (omega arith)
+    past (suc (suc (suc zero))) e = short (omega arith)
+    past (suc (suc (suc (suc zero)))) e = drawn (omega arith)
+    past (suc (suc (suc (suc (suc k))))) e = absurd (omega arith)
+
+    go : (b : Bool) → leb r 7 ≡ b → Number r
+    go true e = unread (leb-true r 7 e)
+    go false e = let l = leb-false r 7 e in past (r - 8) (omega arith)
+
+module _ (bytes buffer : List ℕ) (a : ℕ) where
+  of-song : (s : Song) → parse bytes ≡ accepted s → job bytes buffer a ≡ OfSong.job s buffer a
+  unfolding job jobOf
+  of-song s p = ap (λ (q : Parsed). jobOf q buffer a) p
+
+  of-refused : (r : ℕ) → parse bytes ≡ refused r → job bytes buffer a .answer ≡ refusal r 0 0
+  unfolding job jobOf refusing
+  of-refused r p = ap (λ (q : Parsed). jobOf q buffer a .answer) p
+
+  -- a song's job that is refused
+  answered : (s : Song) → parse bytes ≡ accepted s → (r i n : ℕ) → OfSong.job s buffer a ≡ refusing r i n buffer → job bytes buffer a .answer ≡ refusal r i n
+  unfolding refusing
+  answered s p r i n e = ap (λ (j : Job). j .answer) (of-song s p ∙ e)
+
+  ends-so : (s : Song) (o : Outcome ℕ AtObject (List (List Note))) → under s buffer a ≡ o → OfSong.job s buffer a ≡ ending (columnsOf s) buffer (largest (ledgerUnder s buffer a .searches)) o
+  unfolding OfSong.job
+  ends-so s o u = ap (ending (columnsOf s) buffer (largest (ledgerUnder s buffer a .searches))) u
+
+  answers : (r i n : ℕ) → Condition bytes buffer a r i n → Number r → job bytes buffer a .answer ≡ refusal r i n
+  unfolding ending
+  answers r i n c (unread h) =
+      let k = c .unread h in
+      of-refused r (first-refused bytes r (k .0)) ∙ ap₂ (refusal r) (sym (k .1)) (sym (k .2))
+  answers r i n c (late h) =
+      let k = c .late h in
+      answered (k .0) (k .1) r i n (eight-refuses (k .0) buffer a i n (k .2) ∙ ap (λ (x : ℕ). refusing x i n buffer) (sym h))
+  answers r i n c (blocked h) = absurd (c .not-9 h)
+  answers r i n c (below h) = absurd (c .not-10 h)
+  answers r i n c (short h) =
+      let k = c .short h in
+      answered (k .0) (k .1) r i n (by (k .0) (k .2) ∙ ap (λ (x : ℕ). refusing x i n buffer) (sym h))
+    where
+      by : (s : Song) → ((length buffer < headerSize) × (i ≡ 0) × (n ≡ 0)) ⊎ TooLong s (length buffer) a i n → OfSong.job s buffer a ≡ refusing 11 i n buffer
+      by s (inl h) = short-refuses s buffer a (h .0) ∙ ap₂ (λ (x y : ℕ). refusing 11 x y buffer) (sym (h .1)) (sym (h .2))
+      by s (inr h) = eleven-refuses s buffer a i n h
+  answers r i n c (drawn h) =
+      let k = c .drawn h in
+      answered (k .1 .0) (k .1 .1) r i n (ends-so (k .1 .0) (spent i a) (k .1 .2) ∙ ap₂ (λ (x y : ℕ). refusing x i y buffer) (sym h) (sym (k .0)))
+  answers r i n c (long h) =
+      let k = c .long h in
+      answered (k .0) (k .1) r i n (ends-so (k .0) (Rule.refused (at i longSearch) n) (k .2) ∙ ap (λ (x : ℕ). refusing x i n buffer) (sym h))
+
+  refused-so : (r i n : ℕ) → Condition bytes buffer a r i n → job bytes buffer a .answer ≡ refusal r i n
+  refused-so r i n c = answers r i n c (which r (c .to))
+
 accepted-else : (bytes buffer : List ℕ) (a : ℕ) (x : Answer) → job bytes buffer a .answer ≡ x → ((r i n : ℕ) → Condition bytes buffer a r i n → ⊥) → (n : ℕ) × (g : ℕ) × (x ≡ OfSong.accepted n g)
 accepted-else bytes buffer a (OfSong.accepted n g) e h = (n, g, refl)
 accepted-else bytes buffer a (refusal r i n) e h = absurd (h r i n (refused-by bytes buffer a r i n e))
@@ -178,6 +257,10 @@ unfolding job
 refusals bytes buffer =
     record {
       holds = refused-by bytes buffer;
+      answers = refused-so bytes buffer;
+      one = λ a r i n r' i' n' c c'.
+          let e = sym (refused-so bytes buffer a r i n c) ∙ refused-so bytes buffer a r' i' n' c' in
+          (ap number e, ap index e, ap count e);
       zeroed = λ a r i n e. zeroed-by (parse bytes) buffer a r i n e;
       else = λ a h. accepted-else bytes buffer a (job bytes buffer a .answer) refl h;
     }

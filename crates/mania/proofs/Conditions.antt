@@ -132,6 +132,18 @@ abbrev said : {A : Type 0} → Answer ℕ A → ℕ
 said (found a e) = 0
 said (refused x e) = x
 
+-- a slider that ends too late is refused before any draw
+late-kind : (f : Facts) (v : PrevValues) (columns : ℕ) (o : Object) (k : Kind) → Late f o k → (d : Draws) → on (byKind f v columns o k) d ≡ refused 8 d
+unfolding Late byKind PathObject.new PathObject.generate play
+late-kind f v columns o Circle l d = absurd l
+late-kind f v columns o (Slider repeats distance node) l d = rw (lt-ltb PathObject.latest (PathObject.endTime f o (repeats + 1) distance) l)
+late-kind f v columns o (Spinner duration) l d = absurd l
+late-kind f v columns o (Hold duration) l d = absurd l
+
+pub late-refuses : (f : Facts) (v : PrevValues) (columns : ℕ) (o : Object) → Late f o (o .kind) → (d : Draws) → on (object f v columns o) d ≡ refused 8 d
+unfolding object
+late-refuses f v columns o l d = late-kind f v columns o (o .kind) l d
+
 module _ (f : Facts) (v : PrevValues) (columns : ℕ) (o : Object) (some : 1 ≤ columns) (deck : columns ≤ 9) (mask : v .mask < 2 ^ columns) (last : v .last < columns) where
   end-left : (duration : Float) → Makes (Left columns) (EndTimeObject.generate v columns o duration)
   unfolding EndTimeObject.generate
@@ -197,13 +209,7 @@ module _ (f : Facts) (v : PrevValues) (columns : ℕ) (o : Object) (some : 1 ≤
       late longSearch e c = absurd (omega arith)
 
   late-undrawn : (k : Kind) → Late f o k → (d e : Draws) → on (byKind f v columns o k) d ≡ refused 8 e → d ≡ e
-  unfolding Late byKind PathObject.new PathObject.generate play
-  late-undrawn Circle l d e h = absurd l
-  late-undrawn (Slider repeats distance node) l d e h =
-      let t : on (byKind f v columns o (Slider repeats distance node)) d ≡ refused 8 d = rw (lt-ltb PathObject.latest (PathObject.endTime f o (repeats + 1) distance) l) in
-      ap after (sym t ∙ h)
-  late-undrawn (Spinner duration) l d e h = absurd l
-  late-undrawn (Hold duration) l d e h = absurd l
+  late-undrawn k l d e h = ap after (sym (late-kind f v columns o k l d) ∙ h)
 
   pub undrawn-8 : (d e : Draws) → on (object f v columns o) d ≡ refused 8 e → d ≡ e
   unfolding object

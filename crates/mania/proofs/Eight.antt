@@ -39,7 +39,7 @@ use Rattle.mania.proofs.Conditions.{object-left, undrawn-8}
 use Rattle.mania.proofs.Demand.{some-columns}
 use Rattle.mania.proofs.Reach.{convert-ends}
 use Rattle.mania.proofs.Eleven.{kind, stopAt, left, before-none, before-refused, On}
-use Rattle.chart.specs.Layout.{chartSize}
+use Rattle.chart.specs.Layout.{headerSize, chartSize}
 
 abbrev said : Outcome ℕ AtObject (List (List Note)) → ℕ
 said (ended nss n) = 0
@@ -120,7 +120,7 @@ module _ (s : Song) (deck : columnsOf s ≤ 9) (room a i n : ℕ) where
   abbrev whole : List Object → Rule ℕ AtObject (List (List Note))
   whole os = walk s (conversionDifficulty (s .settings) (s .breaks) (s .objects)) (columnsOf s) room 0 beginning os
 
-  walked : 8 ≤ room → LateAt s (s .objects) i → run (whole (s .objects)) (values a st) ≡ Rule.refused (at i lateEnd) n → TooLate s room a i n
+  walked : headerSize ≤ room → LateAt s (s .objects) i → run (whole (s .objects)) (values a st) ≡ Rule.refused (at i lateEnd) n → TooLate s room a i n
   unfolding placed taken beginning
   walked header late u =
       let m = whole (s .objects) in
@@ -140,11 +140,11 @@ module _ (s : Song) (deck : columnsOf s ≤ 9) (room a i n : ℕ) where
         late = late;
       }
 
-  -- a buffer under 8 bytes is refused by 11
-  by-room : (b : Bool) → ltb room 8 ≡ b → LateAt s (s .objects) i → run (if b then refuse (at 0 tooShort) else whole (s .objects)) (values a st) ≡ Rule.refused (at i lateEnd) n → TooLate s room a i n
+  -- a buffer without room for a header is refused by 11
+  by-room : (b : Bool) → ltb room headerSize ≡ b → LateAt s (s .objects) i → run (if b then refuse (at 0 tooShort) else whole (s .objects)) (values a st) ≡ Rule.refused (at i lateEnd) n → TooLate s room a i n
   unfolding run
   by-room true t late u = let z : _≡_ {A = ℕ} 11 8 = ap said u in absurd (omega arith)
-  by-room false t late u = walked (ltb-false room 8 t) late u
+  by-room false t late u = walked (ltb-false room headerSize t) late u
 
 -- the slider at index i ends too late
 late-at : (s : Song) → columnsOf s ≤ 9 → (buffer : List ℕ) (a i n : ℕ) → under s buffer a ≡ Rule.refused (at i lateEnd) n → LateAt s (s .objects) i
@@ -155,4 +155,4 @@ late-at s deck buffer a i n u =
 
 pub job-eight : (s : Song) → columnsOf s ≤ 9 → (buffer : List ℕ) (a i n : ℕ) → under s buffer a ≡ Rule.refused (at i lateEnd) n → TooLate s (length buffer) a i n
 unfolding under convert
-job-eight s deck buffer a i n u = by-room s deck (length buffer) a i n (ltb (length buffer) 8) refl (late-at s deck buffer a i n u) u
+job-eight s deck buffer a i n u = by-room s deck (length buffer) a i n (ltb (length buffer) headerSize) refl (late-at s deck buffer a i n u) u

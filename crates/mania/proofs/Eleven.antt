@@ -1,4 +1,5 @@
--- 11 in a walk: with room enough the objects so far make notes, after the same draws, and a chart of them is longer than the buffer. Assumes nothing.
+-- 11 in a walk: the notes of the objects before fit; with room enough the next one makes notes too, after the same draws, and a chart of them is longer
+-- than the buffer. Assumes nothing.
 use mathlib.Core.Path.{_≡_, refl, sym, ap, _∙_, subst}
 use mathlib.Core.Logic.{_⊎_, inl, inr}
 use Prim.Native.Nat.{ℕ, suc, _+_, _-_, _*_, _^_, _≤_, _<_, max}
@@ -11,7 +12,7 @@ use lib.Dec.{ltb}
 use lib.Ieee.{Float}
 use lib.ListN.{length, take, length-append}
 use lib.Pow.{pow-pos}
-use borrow.Author.Tests.{ltb-true, le-ltb}
+use borrow.Author.Tests.{ltb-true, ltb-false, le-ltb}
 use Rattle.rules.specs.Rule.{Rule, refuse, Outcome, ended, run, taken, Done, if_then_else_}
 use Rattle.rules.specs.Ledger.{longest}
 use Rattle.rules.specs.Refusal.{tooShort, ObjectRule, number}
@@ -38,7 +39,7 @@ use Rattle.mania.specs.Job.{under}
 use Rattle.mania.proofs.Conditions.{object-left, object-not-11}
 use Rattle.mania.proofs.Demand.{some-columns}
 use Rattle.mania.specs.Laws.Walks.{before, walk-none, walk-refused, walk-full, walk-made}
-use Rattle.chart.specs.Layout.{chartSize}
+use Rattle.chart.specs.Layout.{headerSize, chartSize}
 
 abbrev pub kind : {R A : Type 0} → Answer R A → ℕ
 kind (found a e) = 0
@@ -64,6 +65,10 @@ unfolding before
 before-refused nss (found mss d) r e h = let z : _≡_ {A = ℕ} 0 1 = ap kind h in absurd (omega arith)
 before-refused nss (refused x d) r e h = h
 
+pub none-made : (s : Song) (difficulty : Float) (columns room i : ℕ) (w : Walk) (d : Draws) → onWalk (walk s difficulty columns room i w []) d ≡ found [] d
+unfolding walk play
+none-made s difficulty columns room i w d = refl
+
 -- the notes so far, of the objects up to and with the k-th
 pub record Long (s : Song) (difficulty : Float) (columns room i : ℕ) (w : Walk) (os : List Object) (d : Draws) (j : ℕ) (e : Draws) : Type 0 where
   pub k : ℕ
@@ -71,6 +76,9 @@ pub record Long (s : Song) (difficulty : Float) (columns room i : ℕ) (w : Walk
   pub nss : List (List Note)
   pub made : (wide : ℕ) → chartSize (w .notes + length (inWalkOrder nss)) ≤ wide → onWalk (walk s difficulty columns wide i w (take (suc k) os)) d ≡ found nss e
   pub long : room < chartSize (w .notes + length (inWalkOrder nss))
+  pub before : List (List Note)
+  pub left : Draws
+  pub fit : onWalk (walk s difficulty columns room i w (take k os)) d ≡ found before left
 
 length-one : (ns : List Note) → length (inWalkOrder (ns ∷ [])) ≡ length ns
 unfolding inWalkOrder
@@ -120,14 +128,18 @@ module _ (s : Song) (difficulty : Float) (columns room : ℕ) (some : 1 ≤ colu
               wide-made i w o [] d f made wide u (subst (λ (n : ℕ). chartSize (w .notes + n) ≤ wide) (length-one (made .notes)) m)
               ∙ walk-none s difficulty columns wide (suc i) _ (made .notes ∷ []) f ∙ ap (λ (x : Draws). found (made .notes ∷ []) x) ends;
           long = subst (λ (n : ℕ). room < chartSize (w .notes + n)) (sym (length-one (made .notes))) (ltb-true room _ l);
+          before = [];
+          left = d;
+          fit = none-made s difficulty columns room i w d;
         }
 
     later : (made : Made) (f : Draws) → on rule d ≡ found made f → ltb room (chartSize (w .notes + length (made .notes))) ≡ false → Long s difficulty columns room i w (o ∷ os) d j e
     unfolding before afterObject walkAfter
     later made f u l =
-        let t = sym (before-none (onWalk (walk s difficulty columns room i w (o ∷ os)) d)) ∙ walk-made s difficulty columns room i w o os d made f u l [] in
+        let on-from : (os : List Object) → onWalk (walk s difficulty columns room i w (o ∷ os)) d ≡ before (made .notes ∷ []) (onWalk (walk s difficulty columns room (suc i) (afterObject facts o dens made w) os) f)
+        = λ os. sym (before-none (onWalk (walk s difficulty columns room i w (o ∷ os)) d)) ∙ walk-made s difficulty columns room i w o os d made f u l [] in
         let next-on = object-left facts (w .prev) columns o some deck (on-deck .0) (on-deck .1) d made f u in
-        let r = rest (suc i) (afterObject facts o dens made w) (next-on .1, next-on .0) f j e (before-refused (made .notes ∷ []) _ (stop j 11) e (sym t ∙ h)) in
+        let r = rest (suc i) (afterObject facts o dens made w) (next-on .1, next-on .0) f j e (before-refused (made .notes ∷ []) _ (stop j 11) e (sym (on-from os) ∙ h)) in
         let sizes = length-more (made .notes) (r .nss) in
         record {
           k = suc (r .k);
@@ -137,6 +149,9 @@ module _ (s : Song) (difficulty : Float) (columns room : ℕ) (some : 1 ≤ colu
               wide-made i w o (take (suc (r .k)) os) d f made wide u (first (w .notes) (length (made .notes)) (length (inWalkOrder (r .nss))) wide sizes m)
               ∙ ap (before (made .notes ∷ [])) (r .made wide (all (w .notes) (length (made .notes)) (length (inWalkOrder (r .nss))) wide sizes m));
           long = past (w .notes) (length (made .notes)) (length (inWalkOrder (r .nss))) sizes (r .long);
+          before = made .notes ∷ r .before;
+          left = r .left;
+          fit = on-from (take (r .k) os) ∙ ap (before (made .notes ∷ [])) (r .fit);
         }
       where
         next : (i k : ℕ) → suc i + k ≡ i + suc k
@@ -177,9 +192,9 @@ module _ (s : Song) (deck : columnsOf s ≤ 9) (room a i n : ℕ) where
   abbrev whole : ℕ → List Object → Rule ℕ AtObject (List (List Note))
   whole wide os = walk s (conversionDifficulty (s .settings) (s .breaks) (s .objects)) (columnsOf s) wide 0 beginning os
 
-  walked : run (whole room (s .objects)) (values a st) ≡ Rule.refused (at i tooShort) n → TooLong s room a i n
+  walked : headerSize ≤ room → run (whole room (s .objects)) (values a st) ≡ Rule.refused (at i tooShort) n → TooLong s room a i n
   unfolding placed taken beginning
-  walked u =
+  walked header u =
       let m = whole room (s .objects) in
       let most = max 0 (longest m (values a st)) in
       let d : Draws = tallied a 0 st in
@@ -189,6 +204,12 @@ module _ (s : Song) (deck : columnsOf s ≤ 9) (room a i n : ℕ) where
       let small : n ≤ a = subst (λ (o : Outcome ℕ AtObject (List (List Note))). taken o ≤ a) u (done-le m st a (subst Done (sym u) tt)) in
       let k-is : l .k ≡ i = sym (zero-add (l .k)) ∙ sym (l .at) in
       record {
+        header = header;
+        before = l .before;
+        drawn = a - l .left .tally .left;
+        fit =
+            subst (λ (k : ℕ). run (whole room (take k (s .objects))) (values a st) ≡ ended (l .before) (a - l .left .tally .left)) k-is
+            (found-run spentAt refusedAt (whole room (take (l .k) (s .objects))) d (l .before) (l .left) (l .fit) .0);
         nss = l .nss;
         made = λ wide w.
             subst (λ (k : ℕ). run (whole wide (take (suc k) (s .objects))) (values a st) ≡ ended (l .nss) n) k-is
@@ -203,10 +224,18 @@ module _ (s : Song) (deck : columnsOf s ≤ 9) (room a i n : ℕ) where
       out : (k : ℕ) → room < chartSize (0 + k) → room < chartSize k
       out k h = omega arith
 
-  by-room : (b : Bool) → ltb room 8 ≡ b → run (if b then refuse (at 0 tooShort) else whole room (s .objects)) (values a st) ≡ Rule.refused (at i tooShort) n → (room < 8) ⊎ TooLong s room a i n
-  by-room true e u = inl (ltb-true room 8 e)
-  by-room false e u = inr (walked u)
+  abbrev said : Outcome ℕ AtObject (List (List Note)) → ℕ × ℕ
+  said (ended nss n) = (0, n)
+  said (Rule.refused r n) = (r .object, n)
+  said (Rule.spent i n) = (i, n)
 
-pub job-eleven : (s : Song) → columnsOf s ≤ 9 → (buffer : List ℕ) (a i n : ℕ) → under s buffer a ≡ Rule.refused (at i tooShort) n → (length buffer < 8) ⊎ TooLong s (length buffer) a i n
+  by-room : (b : Bool) → ltb room headerSize ≡ b → run (if b then refuse (at 0 tooShort) else whole room (s .objects)) (values a st) ≡ Rule.refused (at i tooShort) n
+      → ((room < headerSize) × (i ≡ 0) × (n ≡ 0)) ⊎ TooLong s room a i n
+  unfolding run
+  by-room true e u = inl (ltb-true room headerSize e, sym (ap (λ o. said o .0) u), sym (ap (λ o. said o .1) u))
+  by-room false e u = inr (walked (ltb-false room headerSize e) u)
+
+pub job-eleven : (s : Song) → columnsOf s ≤ 9 → (buffer : List ℕ) (a i n : ℕ) → under s buffer a ≡ Rule.refused (at i tooShort) n
+    → ((length buffer < headerSize) × (i ≡ 0) × (n ≡ 0)) ⊎ TooLong s (length buffer) a i n
 unfolding under convert
-job-eleven s deck buffer a i n u = by-room s deck (length buffer) a i n (ltb (length buffer) 8) refl u
+job-eleven s deck buffer a i n u = by-room s deck (length buffer) a i n (ltb (length buffer) headerSize) refl u

@@ -35,12 +35,12 @@ use Rattle.mania.specs.Laws.Walks.{before, walk-refused, walk-full, walk
 use Rattle.mania.proofs.Eleven.{kind, left, before-none, length-more}
 use Rattle.chart.specs.Layout.{chartSize}
 
-abbrev notesIn : Answer Stop (List (List Note)) → List (List Note)
+abbrev pub notesIn : Answer Stop (List (List Note)) → List (List Note)
 notesIn (found nss e) = nss
 notesIn (refused x e) = []
 
 -- an answer without the first object's notes
-without : (ns : List Note) (a : Answer Stop (List (List Note))) (nss : List (List Note)) (e : Draws) → before (ns ∷ []) a ≡ found nss e
+pub without : (ns : List Note) (a : Answer Stop (List (List Note))) (nss : List (List Note)) (e : Draws) → before (ns ∷ []) a ≡ found nss e
     → (mss : List (List Note)) × (a ≡ found mss e) × (nss ≡ ns ∷ mss)
 unfolding before
 without ns (found mss d) nss e h = (mss, ap (λ (x : Draws). found mss x) (ap (left d) h), sym (ap notesIn h))

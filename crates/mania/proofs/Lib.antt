@@ -1,6 +1,6 @@
 -- Laws of the rules. Demand 3 of songs: `Allowances` on draws, `Demand` on deck and lanes, from those of each generator (`EndLanes`, `CircleLanes`,
 -- `SliderLanes`). Refusals: `Conditions`, from what each generator is refused by (`CircleEnds`, `SliderEnds`); `Reach`: why 9 and 10 don't come out
--- of a song, from what each generator leaves (`CircleReach`, `SliderReach`; `Follows`); `Eight`, `Eleven`. `Singles`: the claims of the single-object entry.
+-- of a song, from what each generator leaves (`CircleReach`, `SliderReach`; `Follows`); `Eight`, `Eleven`, and `Refuses` the other way round. `Singles`: the claims of the single-object entry.
 -- `CircleDeck`, `SliderDeck`: what the next object meets. `Counts`: how many notes an object makes. `Limits`: how many draws a search may make, `Own`:
 -- that it tells how many it made. `Ones`, `Frees`, `Masks`: the columns of a mask. `Back`: columns and positions.
 -- `Examples`: computed on the definition.
@@ -32,6 +32,7 @@ pub mod Reach
 pub mod Follows
 pub mod Eleven
 pub mod Eight
+pub mod Refuses
 pub mod Limits
 pub mod Own
 pub mod Singles

@@ -184,7 +184,7 @@ begins columns some deck =
 -- ---- a walk
 
 -- a slider's end depends on the song alone
-late-same : (s : Song) (x y : Float) (d e : Density) (o : Object) (k : Kind) → Late (factsAt s x d o) o k → Late (factsAt s y e o) o k
+pub late-same : (s : Song) (x y : Float) (d e : Density) (o : Object) (k : Kind) → Late (factsAt s x d o) o k → Late (factsAt s y e o) o k
 unfolding Late factsAt PathObject.endTime
 late-same s x y d e o Circle h = h
 late-same s x y d e o (Slider repeats distance node) h = h

@@ -28,7 +28,7 @@ use Rattle.mania.specs.PatternGenerator.{conversionDifficulty}
 use Rattle.mania.specs.PathObject.{spanLength}
 use Rattle.mania.specs.Made.{Made}
 use Rattle.mania.specs.Object.{object}
-use Rattle.chart.specs.Layout.{chartSize}
+use Rattle.chart.specs.Layout.{headerSize, chartSize}
 
 -- ---- the seed and the columns
 
@@ -180,8 +180,8 @@ walk s difficulty columns room i w (o ∷ os) = do
   rest ← walk s difficulty columns room (suc i) (afterObject f o d made w) os
   give (made .notes ∷ rest)
 
--- `convert`, of a song that was read: 11 for a buffer under 8 bytes, and then the walk
+-- `convert`, of a song that was read: 11 for a buffer that does not hold a header, and then the walk
 unfoldable pub convert : Song → ℕ → Rule ℕ AtObject (List (List Note))
 convert s room =
-    if ltb room 8 then refuse (at 0 tooShort)
+    if ltb room headerSize then refuse (at 0 tooShort)
     else walk s (conversionDifficulty (s .settings) (s .breaks) (s .objects)) (columnsOf s) room 0 beginning (s .objects)

@@ -5,7 +5,7 @@ use mathlib.Core.List.{List, [], _∷_}
 use mathlib.Core.Bool.{true}
 use lib.Count.{ones}
 use lib.ListN.{length, take}
-use Rattle.rules.specs.Rule.{ended, run}
+use Rattle.rules.specs.Rule.{Outcome, ended, run}
 use Rattle.rules.specs.Refusal.{lateEnd, noColumn, offDeck}
 use Rattle.random.specs.Generator.{values, seeded}
 use Rattle.mania.specs.declared.Facts.{Facts}
@@ -22,7 +22,7 @@ use Rattle.model.specs.Song.{Song}
 use Rattle.mania.specs.Convert.{AtObject, seed, columnsOf, factsAt, beginning, walk}
 use Rattle.mania.specs.PatternGenerator.{conversionDifficulty}
 use Rattle.mania.specs.Chart.{inWalkOrder}
-use Rattle.chart.specs.Layout.{chartSize}
+use Rattle.chart.specs.Layout.{headerSize, chartSize}
 
 -- 8: a slider ends above the latest time
 unfoldable pub Late : Facts → Object → Kind → Type 0
@@ -52,13 +52,17 @@ Below f v columns o (Slider repeats distance node) = ⊥
 Below f v columns o (Spinner duration) = ⊥
 Below f v columns o (Hold duration) = ⊥
 
+-- how the walk over a song's first k objects ends, with so much room
+abbrev pub firstObjects : Song → (room allowance k : ℕ) → Outcome ℕ AtObject (List (List Note))
+firstObjects s room allowance k =
+    run (walk s (conversionDifficulty (s .settings) (s .breaks) (s .objects)) (columnsOf s) room 0 beginning (take k (s .objects)))
+    (values allowance (seeded (seed (s .settings))))
+
 -- 8: the buffer holds a header and the notes of the objects before index i, which took n draws, and the slider at index i ends too late.
 pub record TooLate (s : Song) (room allowance i n : ℕ) : Type 0 where
-  pub header : 8 ≤ room
+  pub header : headerSize ≤ room
   pub nss : List (List Note)
-  pub made : run (walk s (conversionDifficulty (s .settings) (s .breaks) (s .objects)) (columnsOf s) room 0 beginning (take i (s .objects)))
-      (values allowance (seeded (seed (s .settings))))
-      ≡ ended nss n
+  pub made : firstObjects s room allowance i ≡ ended nss n
   pub late : LateAt s (s .objects) i
 
 -- A refusal r of a walk over `os` whose first object has index i, if its previous patterns are `Reached`.
@@ -69,12 +73,13 @@ pub record InWalk (s : Song) (i : ℕ) (os : List Object) (r : AtObject) : Type 
   pub found : r .refusal ≡ noColumn → ⊥
   pub on : r .refusal ≡ offDeck → ⊥
 
--- 11: with room enough, the objects up to and with the one at index i make their notes, after the same draws, and a chart of them is longer than
--- the room that there is
+-- 11: the buffer holds a header and the notes of the objects before index i. With room enough the one at index i makes its notes too, after n draws
+-- in all, and a chart of them is longer than the room that there is.
 pub record TooLong (s : Song) (room allowance i n : ℕ) : Type 0 where
+  pub header : headerSize ≤ room
+  pub before : List (List Note)
+  pub drawn : ℕ
+  pub fit : firstObjects s room allowance i ≡ ended before drawn
   pub nss : List (List Note)
-  pub made : (wide : ℕ) → chartSize (length (inWalkOrder nss)) ≤ wide
-      → run (walk s (conversionDifficulty (s .settings) (s .breaks) (s .objects)) (columnsOf s) wide 0 beginning (take (suc i) (s .objects)))
-      (values allowance (seeded (seed (s .settings))))
-      ≡ ended nss n
+  pub made : (wide : ℕ) → chartSize (length (inWalkOrder nss)) ≤ wide → firstObjects s wide allowance (suc i) ≡ ended nss n
   pub long : room < chartSize (length (inWalkOrder nss))

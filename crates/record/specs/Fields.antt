@@ -15,7 +15,7 @@ use Rattle.record.specs.Refusal.{Field, f64At}
 use Rattle.record.specs.Header.{countsOf, headerFields}
 use Rattle.record.specs.Section.{entryEnd, entryFields, noTime}
 use Rattle.record.specs.Object.{startAt, objectEnd, objectFields, zeroStart}
-use Rattle.record.specs.Record.{placesOf}
+use Rattle.record.specs.Record.{placesOf, recordEnd}
 
 -- the fields of n entries from bit p on
 unfoldable pub entriesFields : (ℕ → Float → List Field) → (ℕ → ℕ) → (ℕ → Float) → ℕ → Float → ℕ → List Field
@@ -55,9 +55,19 @@ pub record First (s : List ℕ) (fs : List Field) (n : ℕ) : Type 0 where
   pub after : List Field
   pub place : fs ≡ before ++ (at ∷ after)
   pub passed : Each (Passes s) before
+  pub fails : Passes s at → ⊥
   pub cause : ((8 * length s < at .place + at .width) × (n ≡ Numbers.fieldNotWhole)) ⊎ ((at .place + at .width ≤ 8 * length s) × (at .own ≡ n))
 
 -- zero bits fill the last byte after bit p, and no bytes follow
 pub record Fills (s : List ℕ) (p : ℕ) : Type 0 where
   pub zeros : bits s p (8 * ((p + 7) / 8) - p) ≡ 0
   pub ends : length s ≤ (p + 7) / 8
+
+-- no check of the record fails: all fields pass, zero bits fill the last byte, and no bytes follow
+pub record AllPass (s : List ℕ) : Type 0 where
+  pub fields : Each (Passes s) (fieldsOf s)
+  pub filled : Fills s (recordEnd s)
+
+-- the first check of the record that fails, in record order, has the number n: that of a field, or 7 where all fields pass and the filling is wrong
+abbrev pub FirstFailing : List ℕ → ℕ → Type 0
+FirstFailing s n = First s (fieldsOf s) n ⊎ (Each (Passes s) (fieldsOf s) × (Fills s (recordEnd s) → ⊥) × (n ≡ Numbers.filling))

@@ -7,7 +7,7 @@ use mathlib.Core.Bool.{Bool, true, false}
 use mathlib.Core.List.{List, [], _∷_, _++_}
 use lib.ListN.{length}
 use lib.Ieee.{Float}
-use borrow.Author.Tests.{ltb-true, ltb-false, le-ltb, eqb-true, not-false}
+use borrow.Author.Tests.{ltb-true, ltb-false, lt-ltb, le-ltb, eqb-true, not-false}
 use Rattle.bits.specs.Field.{bits, short}
 use Rattle.model.specs.Song.{Song}
 use Rattle.rules.specs.Numbers as Numbers
@@ -21,8 +21,8 @@ use Rattle.record.specs.Header.{headerFields, headerRefusal}
 use Rattle.record.specs.Section.{entryFields, entryRefusal, sectionRefusal}
 use Rattle.record.specs.Object.{nodeBit, distanceFields, nodeFields, kindFields, objectFields, objectRefusal, objectsRefusal}
 use Rattle.record.specs.Record.{listsRefusal, fillRefusal, recordEnd, recordRefusal, songOf, accepted, refused, parsedBy, parse}
-use Rattle.record.specs.Fields.{entriesFields, sectionFields, objectsFields, fieldsOf, Passes, First, Fills}
-use Rattle.record.specs.Laws.Row.{then-none, then-skip, then-assoc, gives-none, or-none, fields-append}
+use Rattle.record.specs.Fields.{entriesFields, sectionFields, objectsFields, fieldsOf, Passes, First, Fills, AllPass, FirstFailing}
+use Rattle.record.specs.Laws.Row.{then-some, then-none, then-skip, then-assoc, gives-none, or-none, fields-append}
 use Rattle.record.specs.Laws.Songs.{parse-accepted}
 use Rattle.record.specs.Laws.Accepted.{accepted-none, refused-number}
 
@@ -71,6 +71,14 @@ not-zero : (s : List ℕ) (n : ℕ) → parse s ≡ refused n → n ≡ 0 → �
 unfolding parse
 not-zero s n e = by-zero (recordRefusal s) n (songOf s) e
 
+parse-by : (m n : ℕ) (song : Song) → (n ≡ 0 → ⊥) → m ≡ n → parsedBy m song ≡ refused n
+parse-by zero n song x e = absurd (x (sym e))
+parse-by (suc m) n song x e = ap refused e
+
+parse-refused : (s : List ℕ) (n : ℕ) → (n ≡ 0 → ⊥) → recordRefusal s ≡ n → parse s ≡ refused n
+unfolding parse
+parse-refused s n x e = parse-by (recordRefusal s) n (songOf s) x e
+
 seven : (s : List ℕ) (n : ℕ) → fillRefusal s (recordEnd s) ≡ suc n → suc n ≡ Numbers.filling
 unfolding fillRefusal
 seven s n h = sym (gives-some _ Numbers.filling n h .1)
@@ -85,12 +93,16 @@ module _ (s : List ℕ) where
   whole e h = ltb-false (8 * length s) e h
 
   first-here : (f : Field) (fs : List Field) (n : ℕ)
-      → ((8 * length s < f .place + f .width) × (n ≡ Numbers.fieldNotWhole)) ⊎ ((f .place + f .width ≤ 8 * length s) × (f .own ≡ n)) → First s (f ∷ fs) n
-  first-here f fs n h = record { before = []; at = f; after = fs; place = refl; passed = tt; cause = h }
+      → ((8 * length s < f .place + f .width) × (n ≡ Numbers.fieldNotWhole)) ⊎ ((f .place + f .width ≤ 8 * length s) × (f .own ≡ n)) → (n ≡ 0 → ⊥) → First s (f ∷ fs) n
+  first-here f fs n h x = record { before = []; at = f; after = fs; place = refl; passed = tt; fails = fails h; cause = h }
+    where
+      fails : ((8 * length s < f .place + f .width) × (n ≡ Numbers.fieldNotWhole)) ⊎ ((f .place + f .width ≤ 8 * length s) × (f .own ≡ n)) → Passes s f → ⊥
+      fails (inl h) p = omega (arith, h .0, p .whole)
+      fails (inr h) p = x (sym (h .1) ∙ p .good)
 
   first-later : (f : Field) (fs : List Field) (n : ℕ) → Passes s f → First s fs n → First s (f ∷ fs) n
   first-later f fs n h k =
-      record { before = f ∷ k .before; at = k .at; after = k .after; place = ap (λ (l : List Field). f ∷ l) (k .place); passed = (h, k .passed); cause = k .cause }
+      record { before = f ∷ k .before; at = k .at; after = k .after; place = ap (λ (l : List Field). f ∷ l) (k .place); passed = (h, k .passed); fails = k .fails; cause = k .cause }
 
   passes : (f : Field) → fieldRefusal s f ≡ 0 → Passes s f
   passes f h = let a = then-none _ _ h in record { whole = whole (f .place + f .width) (gives-none _ 0 (a .0)); good = a .1 }
@@ -101,8 +113,8 @@ module _ (s : List ℕ) where
   first-field (f ∷ fs) n h = by (row-some (fieldRefusal s f) (fieldsRefusal s fs) n h) (first-field fs n)
     where
       here : ((short s (f .place + f .width) gives Numbers.fieldNotWhole) ≡ suc n) ⊎ (((short s (f .place + f .width) gives Numbers.fieldNotWhole) ≡ 0) × (f .own ≡ suc n)) → First s (f ∷ fs) (suc n)
-      here (inl e) = let c = gives-some (short s (f .place + f .width)) Numbers.fieldNotWhole n e in first-here f fs (suc n) (inl (cut (f .place + f .width) (c .0), sym (c .1)))
-      here (inr e) = first-here f fs (suc n) (inr (whole (f .place + f .width) (gives-none _ 0 (e .0)), e .1))
+      here (inl e) = let c = gives-some (short s (f .place + f .width)) Numbers.fieldNotWhole n e in first-here f fs (suc n) (inl (cut (f .place + f .width) (c .0), sym (c .1))) (λ z. omega arith)
+      here (inr e) = first-here f fs (suc n) (inr (whole (f .place + f .width) (gives-none _ 0 (e .0)), e .1)) (λ z. omega arith)
 
       by : (fieldRefusal s f ≡ suc n) ⊎ ((fieldRefusal s f ≡ 0) × (fieldsRefusal s fs ≡ suc n)) → (fieldsRefusal s fs ≡ suc n → First s fs (suc n)) → First s (f ∷ fs) (suc n)
       by (inl e) go = here (row-some _ _ n e)
@@ -118,6 +130,24 @@ module _ (s : List ℕ) where
   none-refused [] h = refl
   none-refused (f ∷ fs) h = rw (le-ltb (8 * length s) (f .place + f .width) (h .0 .whole), h .0 .good) (none-refused fs (h .1))
 
+  -- the number of a field that does not pass
+  failing : (f : Field) (n : ℕ) → (Passes s f → ⊥)
+      → ((8 * length s < f .place + f .width) × (n ≡ Numbers.fieldNotWhole)) ⊎ ((f .place + f .width ≤ 8 * length s) × (f .own ≡ n)) → (fieldRefusal s f ≡ n) × (n ≡ 0 → ⊥)
+  unfolding short _gives_ _then_
+  failing f n x (inl h) = (rw (lt-ltb (8 * length s) (f .place + f .width) (h .0)) (sym (h .1)), λ z. omega (arith, h .1))
+  failing f n x (inr h) = (rw (le-ltb (8 * length s) (f .place + f .width) (h .0)) (h .1), λ z. x (record { whole = h .0; good = h .1 ∙ z }))
+
+  first-some : {fs : List Field} {n : ℕ} → First s fs n → (fieldsRefusal s fs ≡ n) × (n ≡ 0 → ⊥)
+  unfolding fieldsRefusal
+  first-some {fs = fs} {n = n} f =
+      let own = failing (f .at) n (f .fails) (f .cause) in (
+        ap (fieldsRefusal s) (f .place)
+            ∙ (fields-append s (f .before) (f .at ∷ f .after)
+            ∙ (then-skip (fieldsRefusal s (f .before)) (fieldsRefusal s (f .at ∷ f .after)) (none-refused (f .before) (f .passed))
+            ∙ (sym (then-some (fieldRefusal s (f .at)) (fieldsRefusal s (f .after)) (λ z. own .1 (sym (own .0) ∙ z))) ∙ own .0))),
+        own .1,
+      )
+
   -- ---- the filling
 
   fills : (p : ℕ) → fillRefusal s p ≡ 0 → Fills s p
@@ -130,34 +160,55 @@ module _ (s : List ℕ) where
   unfolding fillRefusal _gives_
   filled p h = rw (h .zeros, le-ltb ((p + 7) / 8) (length s) (h .ends))
 
+  unfilled : (p : ℕ) → (Fills s p → ⊥) → fillRefusal s p ≡ Numbers.filling
+  unfolding fillRefusal
+  unfilled p x = go (fillRefusal s p) refl
+    where
+      given : (n : ℕ) → fillRefusal s p ≡ suc n → suc n ≡ Numbers.filling
+      given n h = sym (gives-some _ Numbers.filling n h .1)
+
+      go : (n : ℕ) → fillRefusal s p ≡ n → fillRefusal s p ≡ Numbers.filling
+      go zero h = absurd (x (fills p h))
+      go (suc n) h = h ∙ given n h
+
   -- ---- refused and accepted records
 
-  -- Where a number is given: it is that of the first field that does not pass; or all pass, the filling is not zero bits or bytes follow, and it is 7.
-  pub refused-first : (n : ℕ) → parse s ≡ refused n → First s (fieldsOf s) n ⊎ (Each (Passes s) (fieldsOf s) × (Fills s (recordEnd s) → ⊥) × (n ≡ Numbers.filling))
+  -- where a number is given, it is that of the first check that fails
+  pub refused-first : (n : ℕ) → parse s ≡ refused n → FirstFailing s n
   refused-first n e = by n (sym (record-fields s) ∙ refused-number s n e) (not-zero s n e)
     where
-      last : (n : ℕ) → fieldsRefusal s (fieldsOf s) ≡ 0 → fillRefusal s (recordEnd s) ≡ suc n → First s (fieldsOf s) (suc n) ⊎ (Each (Passes s) (fieldsOf s) × (Fills s (recordEnd s) → ⊥) × (suc n ≡ Numbers.filling))
+      last : (n : ℕ) → fieldsRefusal s (fieldsOf s) ≡ 0 → fillRefusal s (recordEnd s) ≡ suc n → FirstFailing s (suc n)
       last n h k = inr (all-pass (fieldsOf s) h, (λ f. let z = filled (recordEnd s) f in omega arith), seven s n k)
 
-      by : (n : ℕ) → (fieldsRefusal s (fieldsOf s) then fillRefusal s (recordEnd s)) ≡ n → (n ≡ 0 → ⊥) → First s (fieldsOf s) n ⊎ (Each (Passes s) (fieldsOf s) × (Fills s (recordEnd s) → ⊥) × (n ≡ Numbers.filling))
+      by : (n : ℕ) → (fieldsRefusal s (fieldsOf s) then fillRefusal s (recordEnd s)) ≡ n → (n ≡ 0 → ⊥) → FirstFailing s n
       by zero h x = absurd (x refl)
       by (suc n) h x = part (row-some (fieldsRefusal s (fieldsOf s)) (fillRefusal s (recordEnd s)) n h)
         where
-          part : (fieldsRefusal s (fieldsOf s) ≡ suc n) ⊎ ((fieldsRefusal s (fieldsOf s) ≡ 0) × (fillRefusal s (recordEnd s) ≡ suc n)) → First s (fieldsOf s) (suc n) ⊎ (Each (Passes s) (fieldsOf s) × (Fills s (recordEnd s) → ⊥) × (suc n ≡ Numbers.filling))
+          part : (fieldsRefusal s (fieldsOf s) ≡ suc n) ⊎ ((fieldsRefusal s (fieldsOf s) ≡ 0) × (fillRefusal s (recordEnd s) ≡ suc n)) → FirstFailing s (suc n)
           part (inl k) = inl (first-field (fieldsOf s) n k)
           part (inr k) = last n (k .0) (k .1)
 
-  -- an accepted record has no condition: all fields pass, zero bits fill the last byte, and no bytes follow
-  pub accepted-pass : (song : Song) → parse s ≡ accepted song → Each (Passes s) (fieldsOf s) × Fills s (recordEnd s)
+  -- and where a check is the first that fails, its number is given
+  pub first-refused : (n : ℕ) → FirstFailing s n → parse s ≡ refused n
+  first-refused n (inl f) =
+      let some = first-some f in
+      parse-refused s n (some .1) (record-fields s ∙ (sym (then-some (fieldsRefusal s (fieldsOf s)) (fillRefusal s (recordEnd s)) (λ z. some .1 (sym (some .0) ∙ z))) ∙ some .0))
+  first-refused n (inr h) =
+      parse-refused s n (λ z. let w = h .2 in omega arith)
+      (record-fields s ∙ (then-skip (fieldsRefusal s (fieldsOf s)) (fillRefusal s (recordEnd s)) (none-refused (fieldsOf s) (h .0)) ∙ (unfilled (recordEnd s) (h .1) ∙ sym (h .2))))
+
+  -- an accepted record has no condition
+  pub accepted-pass : (song : Song) → parse s ≡ accepted song → AllPass s
   accepted-pass song e =
       let h = then-none (fieldsRefusal s (fieldsOf s)) (fillRefusal s (recordEnd s)) (sym (record-fields s) ∙ accepted-none s song e .0) in
-      (all-pass (fieldsOf s) (h .0), fills (recordEnd s) (h .1))
+      record { fields = all-pass (fieldsOf s) (h .0); filled = fills (recordEnd s) (h .1) }
 
   -- and a record with none is accepted
-  pub pass-accepted : Each (Passes s) (fieldsOf s) → Fills s (recordEnd s) → parse s ≡ accepted (songOf s)
-  pass-accepted h k =
+  pub pass-accepted : AllPass s → parse s ≡ accepted (songOf s)
+  pass-accepted h =
       parse-accepted s
-      (record-fields s ∙ (then-skip (fieldsRefusal s (fieldsOf s)) (fillRefusal s (recordEnd s)) (none-refused (fieldsOf s) h) ∙ filled (recordEnd s) k))
+      (record-fields s
+      ∙ (then-skip (fieldsRefusal s (fieldsOf s)) (fillRefusal s (recordEnd s)) (none-refused (fieldsOf s) (h .fields)) ∙ filled (recordEnd s) (h .filled)))
 
 -- ---- which fields give which number: 2, 3 and 4 those of the header, 5 those of breaks and points, 6 those of objects
 
