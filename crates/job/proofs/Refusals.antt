@@ -1,16 +1,13 @@
 -- When a job is refused. Assumes nothing.
 use mathlib.Core.Path.{_≡_, refl, sym, ap, ap₂, _∙_, subst}
 use mathlib.Core.Logic.{_⊎_, inl, inr}
-use Prim.Native.Nat.{ℕ, zero, suc, _+_, _-_, _≤_, _<_}
+use Prim.Native.Nat.{ℕ, _≤_, _<_}
 use native.Mathlib.Omega.{arith}
-use mathlib.Core.Bool.{Bool, true, false}
 use mathlib.Core.List.{List}
-use lib.Dec.{leb}
 use lib.ListN.{length, replicate}
-use borrow.Author.Tests.{leb-true, leb-false}
 use Rattle.rules.specs.Rule.{Outcome, ended, spent}
 use Rattle.rules.specs.Rule as Rule
-use Rattle.rules.specs.Refusal.{Refusal, lateEnd, noColumn, offDeck, tooShort, longSearch}
+use Rattle.rules.specs.Refusal.{Refusal, lateEnd, tooShort, longSearch}
 use Rattle.rules.specs.Refusal as Refusal
 use Rattle.rules.specs.Ledger.{Ledger, largest}
 use Rattle.rules.specs.Limited.{lastOr}
@@ -27,6 +24,7 @@ use Rattle.mania.proofs.Limits.{job-long}
 use Rattle.mania.proofs.Meets.{refused-meets}
 use Rattle.mania.proofs.Reach.{convert-ends, reasons}
 use Rattle.mania.proofs.Eight.{job-eight}
+use Rattle.mania.proofs.Numbers.{numbered, is-late, is-blocked, is-off, is-short, is-long, not-12, up-to, Number, unread, late, blocked, below, short, drawn, long, which}
 use Rattle.mania.proofs.Refuses.{eight-refuses, eleven-refuses, short-refuses}
 use Rattle.mania.proofs.Demand.{few-columns}
 use Rattle.record.specs.Record.{Parsed, refused, accepted, parse}
@@ -38,57 +36,6 @@ use Rattle.job.specs.Refusals.{Condition, Refusals}
 use Rattle.job.specs.NeverBlocked.{NeverBlocked}
 use Rattle.job.proofs.Numbers.{refused-number, accepted-keys}
 use Rattle.job.proofs.Demand.{refuses, number, index, count}
-
--- the numbers of the refusals of a walk
-numbered : (r : Refusal) → (8 ≤ Refusal.number r) × ((Refusal.number r ≤ 11) ⊎ (Refusal.number r ≡ 16))
-numbered lateEnd = (omega arith, inl (omega arith))
-numbered noColumn = (omega arith, inl (omega arith))
-numbered offDeck = (omega arith, inl (omega arith))
-numbered tooShort = (omega arith, inl (omega arith))
-numbered longSearch = (omega arith, inr refl)
-
-not-12 : (n : ℕ) → (n ≤ 11) ⊎ (n ≡ 16) → n ≡ 12 → ⊥
-not-12 n (inl h) e = omega arith
-not-12 n (inr h) e = omega arith
-
-up-to : (n : ℕ) → (n ≤ 11) ⊎ (n ≡ 16) → (n ≤ 12) ⊎ (n ≡ 16)
-up-to n (inl h) = inl (omega arith)
-up-to n (inr h) = inr h
-
-is-late : (r : Refusal) → Refusal.number r ≡ 8 → r ≡ lateEnd
-is-late lateEnd e = refl
-is-late noColumn e = absurd (omega arith)
-is-late offDeck e = absurd (omega arith)
-is-late tooShort e = absurd (omega arith)
-is-late longSearch e = absurd (omega arith)
-
-is-blocked : (r : Refusal) → Refusal.number r ≡ 9 → r ≡ noColumn
-is-blocked lateEnd e = absurd (omega arith)
-is-blocked noColumn e = refl
-is-blocked offDeck e = absurd (omega arith)
-is-blocked tooShort e = absurd (omega arith)
-is-blocked longSearch e = absurd (omega arith)
-
-is-off : (r : Refusal) → Refusal.number r ≡ 10 → r ≡ offDeck
-is-off lateEnd e = absurd (omega arith)
-is-off noColumn e = absurd (omega arith)
-is-off offDeck e = refl
-is-off tooShort e = absurd (omega arith)
-is-off longSearch e = absurd (omega arith)
-
-is-short : (r : Refusal) → Refusal.number r ≡ 11 → r ≡ tooShort
-is-short lateEnd e = absurd (omega arith)
-is-short noColumn e = absurd (omega arith)
-is-short offDeck e = absurd (omega arith)
-is-short tooShort e = refl
-is-short longSearch e = absurd (omega arith)
-
-is-long : (r : Refusal) → Refusal.number r ≡ 16 → r ≡ longSearch
-is-long lateEnd e = absurd (omega arith)
-is-long noColumn e = absurd (omega arith)
-is-long offDeck e = absurd (omega arith)
-is-long tooShort e = absurd (omega arith)
-is-long longSearch e = refl
 
 -- an answer that refuses zeroes the buffer
 zeroed-of : (c : ℕ) (buffer : List ℕ) (g : ℕ) (o : Outcome ℕ AtObject (List (List Note))) (r i n : ℕ) → ending c buffer g o .answer ≡ refusal r i n → ending c buffer g o .chart ≡ replicate (length buffer) 0
@@ -176,32 +123,6 @@ unfolding job
 refused-by bytes buffer a r i n e = of-parsed bytes buffer (parse bytes) refl a r i n e
 
 -- ---- where a condition holds, the job is refused so
-
--- the numbers one by one
-data Number (r : ℕ) : Type 0 where
-  unread : r ≤ 7 → Number r
-  late : r ≡ 8 → Number r
-  blocked : r ≡ 9 → Number r
-  below : r ≡ 10 → Number r
-  short : r ≡ 11 → Number r
-  drawn : r ≡ 12 → Number r
-  long : r ≡ 16 → Number r
-
-which : (r : ℕ) → (r ≤ 12) ⊎ (r ≡ 16) → Number r
-which r (inr e) = long e
-which r (inl h) = go (leb r 7) refl
-  where
-    past : (k : ℕ) → r ≡ 8 + k → Number r
-    past zero e = late (omega arith)
-    past (suc zero) e = blocked (omega arith)
-    past (suc (suc zero)) e = below (omega arith)
-    past (suc (suc (suc zero))) e = short (omega arith)
-    past (suc (suc (suc (suc zero)))) e = drawn (omega arith)
-    past (suc (suc (suc (suc (suc k))))) e = absurd (omega arith)
-
-    go : (b : Bool) → leb r 7 ≡ b → Number r
-    go true e = unread (leb-true r 7 e)
-    go false e = let l = leb-false r 7 e in past (r - 8) (omega arith)
 
 module _ (bytes buffer : List ℕ) (a : ℕ) where
   of-song : (s : Song) → parse bytes ≡ accepted s → job bytes buffer a ≡ OfSong.job s buffer a

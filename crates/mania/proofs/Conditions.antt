@@ -45,7 +45,7 @@ use Rattle.mania.proofs.SliderEnds as Searches
 
 -- ---- a previous pattern that leaves no column
 
-none-free : (mask c n : ℕ) → anyFree mask c n ≡ false → (e : ℕ) → c ≤ e → e < c + n → bit mask e ≡ 1
+pub none-free : (mask c n : ℕ) → anyFree mask c n ≡ false → (e : ℕ) → c ≤ e → e < c + n → bit mask e ≡ 1
 unfolding anyFree
 none-free mask c zero h e l m = absurd (none l m)
   where

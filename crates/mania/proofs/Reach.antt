@@ -266,8 +266,8 @@ reaches-reached s deck k = walk-reached s _ (columnsOf s) 0 (some-columns s) dec
 reached-valid : (f : Facts) (v : PrevValues) (columns : ℕ) (o : Object) → Reached columns v → Valid f v columns o
 reached-valid f v columns o h =
     record {
-      found = λ a n r e. refused-meets (object f v columns o) (valid-ends f v columns o h) a r noColumn n e .0 refl;
-      on = λ a n r e. refused-meets (object f v columns o) (valid-ends f v columns o h) a r offDeck n e .1 refl;
+      found = λ a r e. refused-meets (object f v columns o) (valid-ends f v columns o h) a r noColumn (e .0) (e .1) .0 refl;
+      on = λ a r e. refused-meets (object f v columns o) (valid-ends f v columns o h) a r offDeck (e .0) (e .1) .1 refl;
     }
 
 -- a check's number is neither 9 nor 10, and their conditions are not met after a reached pattern
@@ -297,6 +297,7 @@ reasons =
       valid = reached-valid;
       others = λ f v columns o n h. reached-valid f v columns o (record { of-8 = λ e. absurd (n e); fits = h });
       lent = λ f v columns o r s a k buffer e c h.
-          let b = claims f v columns o r buffer .refuses a k s e in
-          lent-made-up f v columns o k c h (b .checked) (b .blocked) (b .below);
+          let b = claims f v columns o r buffer in
+          let d = b .refuses a k s e .condition in
+          lent-made-up f v columns o k c h (d .checked) (λ z n. b .blocked a z (d .blocked z n)) (λ z n. b .off a z (d .off z n));
     }

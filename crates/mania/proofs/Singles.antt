@@ -1,6 +1,6 @@
 -- The claims of the single-object entry. Assumes nothing.
 use mathlib.Core.Path.{_≡_, refl, sym, ap, _∙_, subst}
-use mathlib.Core.Logic.{_⊎_, inl, inr}
+use mathlib.Core.Logic.{_⊎_, inl}
 use Prim.Native.Nat.{ℕ, _-_, _*_, _^_, _≤_, _<_, max}
 use native.Mathlib.Nat.{lt-of-not-le}
 use native.Mathlib.Omega.{arith}
@@ -9,7 +9,7 @@ use mathlib.Core.List.{List}
 use lib.Arith.{sub-sub-self}
 use lib.Dec.{eqb, ltb}
 use lib.ListN.{length}
-use borrow.Author.Tests.{ltb-true, ltb-false, eqb-true, eqb-false}
+use borrow.Author.Tests.{ltb-true, ltb-false, lt-ltb, eqb-true, eqb-false}
 use Rattle.rules.specs.Rule.{Outcome, ended, spent, run, taken, Done, refuse, give, if_then_else_}
 use Rattle.rules.specs.Rule as Rule
 use Rattle.rules.specs.Ledger.{longest}
@@ -32,16 +32,17 @@ use Rattle.mania.specs.Refusals.{Late, Blocked, Below}
 use Rattle.mania.specs.Single.{made, refusal, Single, patternFits, settingsFit, pointsFit, objectFits, withRoom, entryRefusal, refusing, ending, singleObject}
 use Rattle.mania.specs.Single as Single
 use Rattle.mania.specs.Demand.{OnDeck}
-use Rattle.mania.specs.SingleClaims.{under, draws, entry, Gave, RefusedBy, Claims, ledgerUnder}
+use Rattle.mania.specs.SingleClaims.{under, draws, entry, Gave, MakesNotes, Condition, RefusedBy, Claims, ledgerUnder}
 use Rattle.model.specs.Limits.{searchLimit}
 use Rattle.mania.proofs.Limits.{Long, room-bound}
 use Rattle.mania.proofs.Makes.{ran}
-use Rattle.mania.specs.Laws.Singles.{Fits, pattern-fits}
+use Rattle.mania.specs.Laws.Singles.{Fits, pattern-fits, by-rule, single-checked, single-refused, single-full}
 use Rattle.mania.proofs.Meets as Meets
 use Rattle.mania.proofs.Meets.{Meets, refused-meets, ended-meets}
 use Rattle.mania.proofs.Conditions as Object
-use Rattle.mania.proofs.Conditions.{Left, object-ends, object-not-11}
+use Rattle.mania.proofs.Conditions.{Left, object-ends, object-not-11, late-refuses}
 use Rattle.mania.proofs.Allowances.{not-spent}
+use Rattle.mania.proofs.Numbers.{numbered, is-late, is-blocked, is-off, is-short, is-long, same-number, not-12, up-to, Number, unread, late, blocked, below, short, drawn, long, which}
 use Rattle.mania.proofs.Demand.{Sound, object-notes, kind-deck}
 use Rattle.chart.specs.Layout.{noteSize}
 
@@ -169,79 +170,62 @@ module _ (f : Facts) (v : PrevValues) (columns : ℕ) (o : Object) (r : Random) 
   unfolding placed taken
   room-short n u = short-from (on rule d) refl n (within (Rule.refused tooShort n) u tt) (play-run (λ p. spentNumber) number roomy a 0 r ∙ ap (placed (λ p. spentNumber) number a most r) u)
 
+  -- what the object's rule comes to from the state
+  abbrev at-rule : Outcome (Unit {0}) Refusal Made → Answer ℕ Made
+  at-rule x = placed (λ p. spentNumber) number a (max 0 (longest rule (values a r))) r x
+
+  rule-is : (x : Outcome (Unit {0}) Refusal Made) → run rule (values a r) ≡ x → on rule d ≡ at-rule x
+  rule-is x u = play-run (λ p. spentNumber) number rule a 0 r ∙ ap at-rule u
+
+  -- a refusal other than 11 is that of the object's rule
+  refused-from : (x : Outcome (Unit {0}) Refusal Made) → run rule (values a r) ≡ x → (q : Refusal) (n : ℕ) → n ≤ a → (number q ≡ 11 → ⊥) → on roomy d ≡ refused (number q) (at n)
+      → run rule (values a r) ≡ Rule.refused q n
+  unfolding placed taken withRoom
+  refused-from (ended m i) u q n l not h = go (ltb (length buffer) (noteSize * length (m .notes))) refl
+    where
+      e : Draws
+      e = tallied (a - i) (max 0 (longest rule (values a r))) (steps i r)
+
+      go : (b : Bool) → ltb (length buffer) (noteSize * length (m .notes)) ≡ b → run rule (values a r) ≡ Rule.refused q n
+      go true t = absurd (not (sym (ap said (sym (by-room m e (rule-is (ended m i) u) true t) ∙ h))))
+      go false t = let z : _≡_ {A = ℕ} 0 1 = ap kind (sym (by-room m e (rule-is (ended m i) u) false t) ∙ h) in absurd (omega arith)
+  refused-from (Rule.refused k i) u q n l not h =
+      let e : Draws = tallied (a - i) (max 0 (longest rule (values a r))) (steps i r) in
+      let t = sym (refused-bind rule _ d (number k) e (rule-is (Rule.refused k i) u)) ∙ h in
+      let small : i ≤ a = subst (λ (o : Outcome (Unit {0}) Refusal Made). taken o ≤ a) u (done-le rule r a (subst Done (sym u) tt)) in
+      let is : a - i ≡ a - n = ap (λ (x : Answer ℕ Made). leftIn x .tally .left) t in
+      u ∙ ap (λ (x : Refusal). Rule.refused x i) (same-number k q (ap said t)) ∙ ap (λ (x : ℕ). Rule.refused q x) (omega (arith, small, l, is))
+  refused-from (spent p i) u q n l not h =
+      let e : Draws = tallied (a - i) (max 0 (longest rule (values a r))) (steps i r) in
+      absurd (not-spent q (sym (ap said (sym (refused-bind rule _ d 12 e (rule-is (spent p i) u)) ∙ h))))
+
+  room-refused : (q : Refusal) (n : ℕ) → run roomy (values a r) ≡ Rule.refused q n → (number q ≡ 11 → ⊥) → run rule (values a r) ≡ Rule.refused q n
+  unfolding placed taken
+  room-refused q n u not =
+      refused-from (run rule (values a r)) refl q n (within (Rule.refused q n) u tt) not (play-run (λ p. spentNumber) number roomy a 0 r ∙ ap (placed (λ p. spentNumber) number a most r) u)
+
 -- ---- refusals of the rule
 
 -- by the conditions of the object's refusals
-abbrev Condition : Facts → PrevValues → ℕ → Object → Refusal → Type 0
-Condition f v columns o lateEnd = Late f o (o .kind)
-Condition f v columns o noColumn = Blocked v columns (o .kind)
-Condition f v columns o offDeck = Below f v columns o (o .kind)
-Condition f v columns o tooShort = Unit {0}
-Condition f v columns o longSearch = Unit {0}
+abbrev Holds : Facts → PrevValues → ℕ → Object → Refusal → Type 0
+Holds f v columns o lateEnd = Late f o (o .kind)
+Holds f v columns o noColumn = Blocked v columns (o .kind)
+Holds f v columns o offDeck = Below f v columns o (o .kind)
+Holds f v columns o tooShort = Unit {0}
+Holds f v columns o longSearch = Unit {0}
 
-room-ends : (f : Facts) (v : PrevValues) (columns : ℕ) (o : Object) (room : ℕ) → Fits v columns → Meets (Condition f v columns o) (λ m. Unit {0}) (withRoom f v columns o room)
+room-ends : (f : Facts) (v : PrevValues) (columns : ℕ) (o : Object) (room : ℕ) → Fits v columns → Meets (Holds f v columns o) (λ m. Unit {0}) (withRoom f v columns o room)
 unfolding withRoom
 room-ends f v columns o room h =
     Meets.seq (Meets.less (object-ends f v columns o (h .some) (h .deck) (h .mask) (h .last)) (λ m k. tt {0}) weaker)
     (λ m u. Meets.by (ltb room (noteSize * length (m .notes))) _ _ (λ e. Meets.refusing tt) (λ e. Meets.giving tt))
   where
-    weaker : (r : Refusal) → Object.Condition f v columns o (o .kind) r → Condition f v columns o r
+    weaker : (r : Refusal) → Object.Condition f v columns o (o .kind) r → Holds f v columns o r
     weaker lateEnd h = h
     weaker noColumn h = h
     weaker offDeck h = h
     weaker tooShort h = tt
     weaker longSearch h = tt
-
-numbered : (r : Refusal) → (8 ≤ number r) × ((number r ≤ 11) ⊎ (number r ≡ 16))
-numbered lateEnd = (omega arith, inl (omega arith))
-numbered noColumn = (omega arith, inl (omega arith))
-numbered offDeck = (omega arith, inl (omega arith))
-numbered tooShort = (omega arith, inl (omega arith))
-numbered longSearch = (omega arith, inr refl)
-
-is-late : (r : Refusal) → number r ≡ 8 → r ≡ lateEnd
-is-late lateEnd e = refl
-is-late noColumn e = absurd (omega arith)
-is-late offDeck e = absurd (omega arith)
-is-late tooShort e = absurd (omega arith)
-is-late longSearch e = absurd (omega arith)
-
-is-blocked : (r : Refusal) → number r ≡ 9 → r ≡ noColumn
-is-blocked lateEnd e = absurd (omega arith)
-is-blocked noColumn e = refl
-is-blocked offDeck e = absurd (omega arith)
-is-blocked tooShort e = absurd (omega arith)
-is-blocked longSearch e = absurd (omega arith)
-
-is-off : (r : Refusal) → number r ≡ 10 → r ≡ offDeck
-is-off lateEnd e = absurd (omega arith)
-is-off noColumn e = absurd (omega arith)
-is-off offDeck e = refl
-is-off tooShort e = absurd (omega arith)
-is-off longSearch e = absurd (omega arith)
-
-is-short : (r : Refusal) → number r ≡ 11 → r ≡ tooShort
-is-short lateEnd e = absurd (omega arith)
-is-short noColumn e = absurd (omega arith)
-is-short offDeck e = absurd (omega arith)
-is-short tooShort e = refl
-is-short longSearch e = absurd (omega arith)
-
-is-long : (r : Refusal) → number r ≡ 16 → r ≡ longSearch
-is-long lateEnd e = absurd (omega arith)
-is-long noColumn e = absurd (omega arith)
-is-long offDeck e = absurd (omega arith)
-is-long tooShort e = absurd (omega arith)
-is-long longSearch e = refl
-
--- no refusal of a rule is 12
-not-12 : (n : ℕ) → (n ≤ 11) ⊎ (n ≡ 16) → n ≡ 12 → ⊥
-not-12 n (inl h) e = omega arith
-not-12 n (inr h) e = omega arith
-
-up-to : (n : ℕ) → (n ≤ 11) ⊎ (n ≡ 16) → (n ≤ 12) ⊎ (n ≡ 16)
-up-to n (inl h) = inl (omega arith)
-up-to n (inr h) = inr h
 
 module _ (f : Facts) (v : PrevValues) (columns : ℕ) (o : Object) (r : Random) (buffer : List ℕ) where
   abbrev entered : ObjectRule Made
@@ -348,21 +332,23 @@ module _ (f : Facts) (v : PrevValues) (columns : ℕ) (o : Object) (r : Random) 
   refused-of c a (Rule.refused q n) u j k s e =
       let is : number q ≡ k = ap numberOf e in
       let t = numbered q in
-      let holds : Condition f v columns o q = refused-meets entered (room-ends f v columns o (length buffer) (entry-fits f v columns o c)) a r q n u in
+      let holds : Holds f v columns o q = refused-meets entered (room-ends f v columns o (length buffer) (entry-fits f v columns o c)) a r q n u in
       record {
         lent = sym (ap stateOf e);
         unwritten = ap (λ (x : Single). x .notes) j;
-        checked = λ h. absurd (h c);
-        from = λ h. omega (arith, t .0);
-        to = λ h. subst (λ (x : ℕ). (x ≤ 12) ⊎ (x ≡ 16)) is (up-to (number q) (t .1));
-        late = λ h i. subst (Condition f v columns o) (is-late q (is ∙ i)) holds;
-        blocked = λ h i. subst (Condition f v columns o) (is-blocked q (is ∙ i)) holds;
-        below = λ h i. subst (Condition f v columns o) (is-off q (is ∙ i)) holds;
-        short = λ h i. room-short f v columns o r buffer (entry-fits f v columns o c) a n (u ∙ ap (λ (x : Refusal). Rule.refused x n) (is-short q (is ∙ i)));
-        drawn = λ h i. absurd (not-12 (number q) (t .1) (is ∙ i));
-        long = λ h i.
-            let w = u ∙ ap (λ (x : Refusal). Rule.refused x n) (is-long q (is ∙ i)) in
-            (n, w, refused-full searchLimit Long entered (room-bound f v columns o (length buffer) .limits) (values a r) longSearch n w refl);
+        condition = record {
+          checked = λ h. absurd (h c);
+          from = λ h. omega (arith, t .0);
+          to = λ h. subst (λ (x : ℕ). (x ≤ 12) ⊎ (x ≡ 16)) is (up-to (number q) (t .1));
+          late = λ h i. subst (Holds f v columns o) (is-late q (is ∙ i)) holds;
+          blocked = λ h i. (n, room-refused f v columns o r buffer (entry-fits f v columns o c) a noColumn n (u ∙ ap (λ (x : Refusal). Rule.refused x n) (is-blocked q (is ∙ i))) (λ z. omega arith));
+          off = λ h i. (n, room-refused f v columns o r buffer (entry-fits f v columns o c) a offDeck n (u ∙ ap (λ (x : Refusal). Rule.refused x n) (is-off q (is ∙ i))) (λ z. omega arith));
+          short = λ h i. room-short f v columns o r buffer (entry-fits f v columns o c) a n (u ∙ ap (λ (x : Refusal). Rule.refused x n) (is-short q (is ∙ i)));
+          drawn = λ h i. absurd (not-12 (number q) (t .1) (is ∙ i));
+          long = λ h i.
+              let w = u ∙ ap (λ (x : Refusal). Rule.refused x n) (is-long q (is ∙ i)) in
+              (n, w, refused-full searchLimit Long entered (room-bound f v columns o (length buffer) .limits) (values a r) longSearch n w refl);
+        };
       }
   refused-of c a (spent p n) u j k s e =
       let is : 12 ≡ k = ap numberOf e in
@@ -370,15 +356,17 @@ module _ (f : Facts) (v : PrevValues) (columns : ℕ) (o : Object) (r : Random) 
       record {
         lent = sym (ap stateOf e);
         unwritten = ap (λ (x : Single). x .notes) j;
-        checked = λ h. absurd (h c);
-        from = λ h. omega arith;
-        to = λ h. inl (omega arith);
-        late = λ h i. absurd (omega arith);
-        blocked = λ h i. absurd (omega arith);
-        below = λ h i. absurd (omega arith);
-        short = λ h i. absurd (omega arith);
-        drawn = λ h i. u ∙ ap (λ (x : ℕ). spent p x) w;
-        long = λ h i. absurd (omega arith);
+        condition = record {
+          checked = λ h. absurd (h c);
+          from = λ h. omega arith;
+          to = λ h. inl (omega arith);
+          late = λ h i. absurd (omega arith);
+          blocked = λ h i. absurd (omega arith);
+          off = λ h i. absurd (omega arith);
+          short = λ h i. absurd (omega arith);
+          drawn = λ h i. u ∙ ap (λ (x : ℕ). spent p x) w;
+          long = λ h i. absurd (omega arith);
+        };
       }
 
   refused-in : (b : Bool) → eqb E 0 ≡ b → (a : ℕ) → entry f v columns o r buffer a ≡ by b a → (k : ℕ) (s : Random) → by b a .answer ≡ refusal k s → RefusedBy f v columns o r buffer a k s
@@ -389,19 +377,71 @@ module _ (f : Facts) (v : PrevValues) (columns : ℕ) (o : Object) (r : Random) 
       record {
         lent = sym (ap stateOf e);
         unwritten = ap (λ (x : Single). x .notes) j;
-        checked = λ h. sym (ap numberOf e);
-        from = λ h. absurd (none h);
-        to = λ h. absurd (none h);
-        late = λ h i. absurd (none h);
-        blocked = λ h i. absurd (none h);
-        below = λ h i. absurd (none h);
-        short = λ h i. absurd (none h);
-        drawn = λ h i. absurd (none h);
-        long = λ h i. absurd (none h);
+        condition = record {
+          checked = λ h. sym (ap numberOf e);
+          from = λ h. absurd (none h);
+          to = λ h. absurd (none h);
+          late = λ h i. absurd (none h);
+          blocked = λ h i. absurd (none h);
+          off = λ h i. absurd (none h);
+          short = λ h i. absurd (none h);
+          drawn = λ h i. absurd (none h);
+          long = λ h i. absurd (none h);
+        };
       }
 
+  -- ---- where a condition holds, the entry refuses so
+
+  abbrev Refuses : ℕ → ℕ → Type 0
+  Refuses a k = entry f v columns o r buffer a ≡ refusing k r buffer
+
+  module _ (c : E ≡ 0) (a : ℕ) where
+    -- the object's rule is refused
+    stops : (q : Refusal) (n : ℕ) → run (object f v columns o) (values a r) ≡ Rule.refused q n → Refuses a (number q)
+    unfolding placed
+    stops q n u = single-refused f v columns o r a buffer c (number q) _ (play-run (λ p. spentNumber) number (object f v columns o) a 0 r ∙ ap (placed (λ p. spentNumber) number a _ r) u)
+
+    -- its notes are longer than the buffer
+    too-long : (m : Made) (n : ℕ) → run (object f v columns o) (values a r) ≡ ended m n → length buffer < noteSize * length (m .notes) → Refuses a 11
+    unfolding placed
+    too-long m n u l =
+        single-full f v columns o r a buffer c m _ (play-run (λ p. spentNumber) number (object f v columns o) a 0 r ∙ ap (placed (λ p. spentNumber) number a _ r) u)
+        (lt-ltb (length buffer) (noteSize * length (m .notes)) l)
+
+    ends : (x : Outcome (Unit {0}) Refusal Made) → under f v columns o r buffer a ≡ x → entry f v columns o r buffer a ≡ ending r buffer x
+    unfolding under
+    ends x u = by-rule f v columns o r a buffer c ∙ ap (ending r buffer) u
+
+    by-number : (k : ℕ) → Condition f v columns o r buffer a k → Number k → Refuses a k
+    unfolding ending
+    by-number k h (unread l) = absurd (omega (arith, h .from c))
+    by-number k h (late e) = single-refused f v columns o r a buffer c 8 _ (late-refuses f v columns o (h .late c e) (tallied a 0 r)) ∙ ap (λ (x : ℕ). refusing x r buffer) (sym e)
+    by-number k h (blocked e) = let w = h .blocked c e in stops noColumn (w .0) (w .1) ∙ ap (λ (x : ℕ). refusing x r buffer) (sym e)
+    by-number k h (below e) = let w = h .off c e in stops offDeck (w .0) (w .1) ∙ ap (λ (x : ℕ). refusing x r buffer) (sym e)
+    by-number k h (short e) = let w = h .short c e in too-long (w .0) (w .1) (w .2) (w .3) ∙ ap (λ (x : ℕ). refusing x r buffer) (sym e)
+    by-number k h (drawn e) = ends (spent tt a) (h .drawn c e) ∙ ap (λ (x : ℕ). refusing x r buffer) (sym e)
+    by-number k h (long e) = let w = h .long c e in ends (Rule.refused longSearch (w .0)) (w .1) ∙ ap (λ (x : ℕ). refusing x r buffer) (sym e)
+
+  refused-so : (a k : ℕ) → Condition f v columns o r buffer a k → Refuses a k
+  refused-so a k h = go (eqb E 0) refl
+    where
+      go : (b : Bool) → eqb E 0 ≡ b → Refuses a k
+      go true e = let c = eqb-true E 0 e in by-number c a k h (which k (h .to c))
+      go false e = let x = eqb-false E 0 e in single-checked f v columns o r a buffer x ∙ ap (λ (n : ℕ). refusing n r buffer) (sym (h .checked x))
+
+  -- where none holds it makes notes
+  makes-notes : (a : ℕ) (x : Single.Answer) → entry f v columns o r buffer a .answer ≡ x → ((k : ℕ) (s : Random) → x ≡ refusal k s → ⊥) → MakesNotes f v columns o r buffer a
+  makes-notes a (made k mask last stair s n) e h = record { count = k; mask = mask; last = last; stair = stair; state = s; drawn = n; answer = e }
+  makes-notes a (refusal k s) e h = absurd (h k s refl)
+
+  -- what 9 and 10 come to
+  come-to : E ≡ 0 → (a : ℕ) (q : Refusal) (n : ℕ) → run (object f v columns o) (values a r) ≡ Rule.refused q n → Object.Condition f v columns o (o .kind) q
+  come-to c a q n u =
+      let t = entry-fits f v columns o c in
+      refused-meets (object f v columns o) (object-ends f v columns o (t .some) (t .deck) (t .mask) (t .last)) a r q n u
+
   pub claims : Claims f v columns o r buffer
-  unfolding singleObject draws under
+  unfolding singleObject draws under refusing
   claims =
       let b = eqb E 0 in
       record {
@@ -411,4 +451,9 @@ module _ (f : Facts) (v : PrevValues) (columns : ℕ) (o : Object) (r : Random) 
         same = λ a c h l. same-by b a c h l;
         gave = λ a k mask last stair s n e. gave-by b refl a refl refl k mask last stair s n e;
         refuses = λ a k s e. refused-in b refl a refl k s e;
+        answers = refused-so;
+        one = λ a k l c d. ap (λ (j : Single). numberOf (j .answer)) (sym (refused-so a k c) ∙ refused-so a l d);
+        otherwise = λ a h. makes-notes a (entry f v columns o r buffer a .answer) refl (λ k s e. h k (refused-in b refl a refl k s e .condition));
+        blocked = λ a c w. come-to c a noColumn (w .0) (w .1);
+        off = λ a c w. come-to c a offDeck (w .0) (w .1);
       }

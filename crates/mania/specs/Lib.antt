@@ -21,3 +21,4 @@ pub mod Job
 pub mod Demand
 pub mod SingleClaims
 pub mod Laws
+pub mod OneRule

@@ -8,8 +8,8 @@ use lib.Count.{ones}
 use lib.Ieee.{Float}
 use lib.ListN.{length, take}
 use Rattle.rules.specs.Numbers as Numbers
-use Rattle.rules.specs.Rule.{give, _>>=_, ended, refused, run}
-use Rattle.rules.specs.Refusal.{noColumn, offDeck, ObjectRule}
+use Rattle.rules.specs.Rule.{give, _>>=_, ended, run}
+use Rattle.rules.specs.Refusal.{ObjectRule}
 use Rattle.random.specs.Generator.{values}
 use Rattle.random.specs.declared.Random.{Random}
 use Rattle.model.specs.Song.{Song}
@@ -23,6 +23,7 @@ use Rattle.mania.specs.Object.{object}
 use Rattle.mania.specs.Convert.{Walk, columnsOf, beginning, meets, factsAt, afterObject, walk}
 use Rattle.mania.specs.PatternGenerator.{conversionDifficulty}
 use Rattle.mania.specs.Chart.{inWalkOrder}
+use Rattle.mania.specs.Refusals.{NoValidColumn, OffTheDeck}
 use Rattle.mania.specs.Single.{refusal, patternFits, singleObject}
 
 -- The most columns that a previous pattern holds in a song of 8 columns.
@@ -64,8 +65,8 @@ pub record Follows (s : Song) (k a n : ℕ) (r : Random) (notes : ℕ) : Type 0 
 
 -- Whatever is drawn, every search for a column has a valid one (no 9), and every column lies on the deck (no 10).
 pub record Valid (f : Facts) (v : PrevValues) (columns : ℕ) (o : Object) : Type 0 where
-  pub found : (a n : ℕ) (r : Random) → run (object f v columns o) (values a r) ≡ refused noColumn n → ⊥
-  pub on : (a n : ℕ) (r : Random) → run (object f v columns o) (values a r) ≡ refused offDeck n → ⊥
+  pub found : (a : ℕ) (r : Random) → NoValidColumn f v columns o r a → ⊥
+  pub on : (a : ℕ) (r : Random) → OffTheDeck f v columns o r a → ⊥
 
 -- Why 9 and 10 cannot come out of a job.
 pub record Reasons : Type 0 where

@@ -2,25 +2,30 @@
 use mathlib.Core.Path.{_≡_}
 use Prim.Native.Nat.{ℕ, zero, suc, _+_, _*_, _≤_, _<_}
 use mathlib.Core.List.{List, [], _∷_}
-use mathlib.Core.Bool.{true}
+use mathlib.Core.Bool.{true, false}
 use lib.Count.{ones}
 use lib.ListN.{length, take}
-use Rattle.rules.specs.Rule.{Outcome, ended, run}
+use Rattle.rules.specs.Rule.{give, refuse, Outcome, ended, refused, run}
 use Rattle.rules.specs.Refusal.{lateEnd, noColumn, offDeck}
 use Rattle.random.specs.Generator.{values, seeded}
+use Rattle.random.specs.declared.Random.{Random}
 use Rattle.mania.specs.declared.Facts.{Facts}
 use Rattle.mania.specs.declared.PrevValues.{PrevValues}
 use Rattle.mania.specs.declared.Note.{Note}
+use Rattle.mania.specs.declared.Next.{Next}
+use Rattle.mania.specs.declared.Next.the-variants.{Draw, Step}
 use Rattle.model.specs.declared.Object.{Object}
 use Rattle.model.specs.declared.Kind.{Kind}
 use Rattle.model.specs.declared.Kind.the-variants.{Circle, Slider, Spinner, Hold}
 use Rattle.mania.specs.Steps.{double}
 use Rattle.mania.specs.PatternType.{reverseStair, contains}
+use Rattle.mania.specs.Pattern.{Pattern, free, put, add}
+use Rattle.mania.specs.Object.{object}
 use Rattle.mania.specs.HitObject
 use Rattle.mania.specs.PathObject.{endTime, latest}
 use Rattle.model.specs.Song.{Song}
 use Rattle.mania.specs.Convert.{AtObject, seed, columnsOf, factsAt, beginning, walk}
-use Rattle.mania.specs.PatternGenerator.{conversionDifficulty}
+use Rattle.mania.specs.PatternGenerator.{randomStart, columnSearch, conversionDifficulty}
 use Rattle.mania.specs.Chart.{inWalkOrder}
 use Rattle.chart.specs.Layout.{headerSize, chartSize}
 
@@ -37,7 +42,20 @@ LateAt s [] i = ⊥
 LateAt s (o ∷ os) zero = Late (factsAt s (double 0 1) (beginning .density) o) o (o .kind)
 LateAt s (o ∷ os) (suc i) = LateAt s os i
 
--- 9: of 8 columns, the previous pattern has columns 1 to 7 and not 0, so that it has each column which a search off it may give, and does not
+-- 9: the object's rule, from the state r under the allowance a, comes to a search that has no valid column
+abbrev pub NoValidColumn : Facts → PrevValues → ℕ → Object → Random → ℕ → Type 0
+NoValidColumn f v columns o r a = (n : ℕ) × (run (object f v columns o) (values a r) ≡ refused noColumn n)
+
+-- 10: it comes to a column off the deck
+abbrev pub OffTheDeck : Facts → PrevValues → ℕ → Object → Random → ℕ → Type 0
+OffTheDeck f v columns o r a = (n : ℕ) × (run (object f v columns o) (values a r) ≡ refused offDeck n)
+
+-- no column is valid for a search: each that it could give, its first and those of its range, is taken
+pub record NoneValid (initial lower upper taken : ℕ) : Type 0 where
+  pub first : free taken initial ≡ false
+  pub range : (c : ℕ) → lower ≤ c → c < upper → free taken c ≡ false
+
+-- 9 comes to this: of 8 columns, the previous pattern has columns 1 to 7 and not 0, so that it has each column which a search off it may give, and does not
 -- fill the deck; a circle is not refused so
 unfoldable pub Blocked : PrevValues → ℕ → Kind → Type 0
 Blocked v columns Circle = ⊥
@@ -45,12 +63,30 @@ Blocked v columns (Slider repeats distance node) = (columns ≡ 8) × (v .mask �
 Blocked v columns (Spinner duration) = (columns ≡ 8) × (v .mask ≡ 254)
 Blocked v columns (Hold duration) = (columns ≡ 8) × (v .mask ≡ 254)
 
--- 10: a circle of 8 columns in a reverse stair from column 0, the previous pattern's only one
+-- and 10 to this: a circle of 8 columns in a reverse stair from column 0, the previous pattern's only one
 unfoldable pub Below : Facts → PrevValues → ℕ → Object → Kind → Type 0
 Below f v columns o Circle = (columns ≡ 8) × (v .last ≡ 0) × (ones (v .mask) ≡ 1) × (contains (HitObject.new f v columns o .flags) reverseStair ≡ true)
 Below f v columns o (Slider repeats distance node) = ⊥
 Below f v columns o (Spinner duration) = ⊥
 Below f v columns o (Hold duration) = ⊥
+
+-- What 9 and 10 stand for in the rules: `noColumn` is refused in a column search alone (PatternGenerator.antt), `offDeck` in `add` alone (Pattern.antt).
+pub record Sources : Type 1 where
+  -- A search is refused where no column is valid, before any draw,
+  pub none : (next : Next) (columns initial lower upper taken : ℕ) → NoneValid initial lower upper taken → columnSearch next columns initial lower upper taken ≡ refuse noColumn
+  -- and only there: one that draws,
+  pub drawn : (columns initial lower upper taken a n : ℕ) (r : Random)
+      → run (columnSearch Draw columns initial lower upper taken) (values a r) ≡ refused noColumn n → NoneValid initial lower upper taken
+  -- and one that steps, which goes round the deck.
+  pub stepped : (columns initial taken a n : ℕ) (r : Random) → randomStart columns ≤ initial → initial < columns
+      → run (columnSearch Step columns initial (randomStart columns) columns taken) (values a r) ≡ refused noColumn n → NoneValid initial (randomStart columns) columns taken
+  -- A note is refused where its column is off the deck, and only there.
+  pub off : {A : Type 0} (columns c : ℕ) (note : A) (p : Pattern A) → columns ≤ c → add columns note c p ≡ refuse offDeck
+  pub on : {A : Type 0} (columns c : ℕ) (note : A) (p : Pattern A) → c < columns → add columns note c p ≡ give (put note c p)
+  -- `Blocked` is such a search: off the previous pattern, from any column that it could give.
+  pub blocked : (v : PrevValues) (columns : ℕ) (k : Kind) → Blocked v columns k → (c : ℕ) → randomStart columns ≤ c → c < columns → NoneValid c (randomStart columns) columns (v .mask)
+  -- `Below` is such a column: that before column 0, in 8 bits.
+  pub below : (f : Facts) (v : PrevValues) (columns : ℕ) (o : Object) (k : Kind) → Below f v columns o k → columns ≤ HitObject.reverseStairColumn (HitObject.new f v columns o)
 
 -- how the walk over a song's first k objects ends, with so much room
 abbrev pub firstObjects : Song → (room allowance k : ℕ) → Outcome ℕ AtObject (List (List Note))

@@ -22,7 +22,7 @@ use Rattle.model.specs.Limits.{searchLimit}
 use Rattle.mania.specs.Object.{object}
 use Rattle.mania.specs.Chart.{body, written}
 use Rattle.mania.specs.Single.{made, refusal, Single, withRoom, entryRefusal, singleObject}
-use Rattle.mania.specs.Refusals.{Late, Blocked, Below}
+use Rattle.mania.specs.Refusals.{Late, NoValidColumn, OffTheDeck, Blocked, Below}
 use Rattle.mania.specs.Demand.{Each, Lanes, OnDeck}
 use Rattle.chart.specs.Layout.{noteSize}
 
@@ -65,27 +65,41 @@ module _ (f : Facts) (v : PrevValues) (columns : ℕ) (o : Object) (r : Random) 
     -- all of these are those of the object's rule
     pub made : run (object f v columns o) (values a r) ≡ ended (record { notes = notes; mask = mask; last = last; stair = stair }) n
 
-  -- what is true where the entry refuses by k and gives a state s
-  pub record RefusedBy (a k : ℕ) (s : Random) : Type 0 where
-    -- the state is the one that was lent, and nothing is written
-    pub lent : s ≡ r
-    pub unwritten : entry a .notes ≡ buffer
+  -- the entry makes notes
+  pub record MakesNotes (a : ℕ) : Type 0 where
+    pub count : ℕ
+    pub mask : ℕ
+    pub last : ℕ
+    pub stair : Stair
+    pub state : Random
+    pub drawn : ℕ
+    pub answer : entry a .answer ≡ made count mask last stair state drawn
+
+  -- the condition of a refusal by k
+  pub record Condition (a k : ℕ) : Type 0 where
     -- 13, 4, 5 and 6: the first check that fails; else it is 8 to 12, or 16
     pub checked : (entryRefusal f v columns o ≡ 0 → ⊥) → k ≡ entryRefusal f v columns o
     pub from : entryRefusal f v columns o ≡ 0 → Numbers.sliderEnd ≤ k
     pub to : entryRefusal f v columns o ≡ 0 → (k ≤ Numbers.noDrawLeft) ⊎ (k ≡ Numbers.longSearch)
     -- 8: the object is a slider that ends above 33,554,431
     pub late : entryRefusal f v columns o ≡ 0 → k ≡ Numbers.sliderEnd → Late f o (o .kind)
-    -- 9: no circle, and of 8 columns the previous pattern has 1 to 7 and not 0
-    pub blocked : entryRefusal f v columns o ≡ 0 → k ≡ Numbers.noColumn → Blocked v columns (o .kind)
-    -- 10: a circle in a reverse stair of 8 columns from column 0
-    pub below : entryRefusal f v columns o ≡ 0 → k ≡ Numbers.offDeck → Below f v columns o (o .kind)
+    -- 9: a search has no valid column
+    pub blocked : entryRefusal f v columns o ≡ 0 → k ≡ Numbers.noColumn → NoValidColumn f v columns o r a
+    -- 10: a column is off the deck
+    pub off : entryRefusal f v columns o ≡ 0 → k ≡ Numbers.offDeck → OffTheDeck f v columns o r a
     -- 11: the object's rule makes notes, and they are longer than the buffer
     pub short : entryRefusal f v columns o ≡ 0 → k ≡ Numbers.chartTooShort → (m : Made) × (n : ℕ) × (run (object f v columns o) (values a r) ≡ ended m n) × (length buffer < noteSize * length (m .notes))
     -- 12: a draw was needed and none was left; the whole allowance was drawn
     pub drawn : entryRefusal f v columns o ≡ 0 → k ≡ Numbers.noDrawLeft → under a ≡ spent tt a
     -- 16: one search, the last, made as many draws as it may, and needed one more
     pub long : entryRefusal f v columns o ≡ 0 → k ≡ Numbers.longSearch → (n : ℕ) × (under a ≡ refused longSearch n) × (lastOr 0 (ledgerUnder a .searches) ≡ searchLimit)
+
+  -- what is true where the entry refuses by k and gives a state s
+  pub record RefusedBy (a k : ℕ) (s : Random) : Type 0 where
+    -- the state is the one that was lent, and nothing is written
+    pub lent : s ≡ r
+    pub unwritten : entry a .notes ≡ buffer
+    pub condition : Condition a k
 
   -- Of one object with all that is lent, under every allowance.
   pub record Claims : Type 0 where
@@ -98,3 +112,12 @@ module _ (f : Facts) (v : PrevValues) (columns : ℕ) (o : Object) (r : Random) 
     pub same : (a b : ℕ) → (Spent (entry a) → ⊥) → draws a ≤ b → entry b ≡ entry a
     pub gave : (a k mask last : ℕ) (stair : Stair) (s : Random) (n : ℕ) → entry a .answer ≡ made k mask last stair s n → Gave a k mask last stair s n
     pub refuses : (a k : ℕ) (s : Random) → entry a .answer ≡ refusal k s → RefusedBy a k s
+    -- where a condition holds the entry refuses so, so that no two hold under one allowance
+    pub answers : (a k : ℕ) → Condition a k → entry a ≡ record { answer = refusal k r; notes = buffer }
+    pub one : (a k l : ℕ) → Condition a k → Condition a l → k ≡ l
+    -- where none holds it makes notes
+    pub otherwise : (a : ℕ) → ((k : ℕ) → Condition a k → ⊥) → MakesNotes a
+    -- 9 comes to this: no circle, and of 8 columns the previous pattern has 1 to 7 and not 0
+    pub blocked : (a : ℕ) → entryRefusal f v columns o ≡ 0 → NoValidColumn f v columns o r a → Blocked v columns (o .kind)
+    -- and 10 to this: a circle in a reverse stair of 8 columns from column 0
+    pub off : (a : ℕ) → entryRefusal f v columns o ≡ 0 → OffTheDeck f v columns o r a → Below f v columns o (o .kind)

@@ -81,7 +81,8 @@ module _ (f : Facts) (v : PrevValues) (columns : ℕ) (o : Object) (r : Random) 
     abbrev roomy : ObjectRule Made
     roomy = withRoom f v columns o (length buffer)
 
-    by-rule : singleObject f v columns o r a buffer ≡ ending r buffer (run roomy (values a r))
+    -- the checks pass: the object's rule, with room
+    pub by-rule : singleObject f v columns o r a buffer ≡ ending r buffer (run roomy (values a r))
     unfolding singleObject
     by-rule = rw (eq-eqb (entryRefusal f v columns o) 0 passes)
 
