@@ -1,10 +1,10 @@
 -- A circle's notes lie on the deck, and so do the mask and the last column that it leaves; that column is one of the mask's. Assumes nothing.
-use mathlib.Core.Path.{_≡_, refl}
+use mathlib.Core.Path.{_≡_, refl, sym, ap, _∙_}
 use mathlib.Core.Logic.{inl, inr}
 use Prim.Native.Nat.{ℕ, zero, suc, _/_, _^_, _<_}
 use mathlib.Core.Bool.{_&&_}
 use lib.Dec.{eqb, ltb}
-use lib.Bits.{or-lt}
+use lib.Bits.{bitOr, or-lt}
 use lib.Pow.{pow-pos, pow-lt}
 use borrow.Author.Tests.{ltb-true}
 use Rattle.random.specs.Generator.{unit}
@@ -21,7 +21,7 @@ use Rattle.mania.specs.PatternGenerator.{randomStart}
 use Rattle.mania.specs.HitObject
 use Rattle.mania.specs.Demand.{Each}
 use Rattle.mania.proofs.Masks.{or-own}
-use Rattle.mania.proofs.Ones.{Own, Owned}
+use Rattle.mania.proofs.Ones.{Own, Owned, maskFrom, mask-snoc}
 use Rattle.mania.proofs.Makes.{Makes, any, giving, refusing, seq, by, each-snoc}
 
 pub record Deck (columns : ℕ) (p : Pattern Note) : Type 0 where
@@ -29,18 +29,19 @@ pub record Deck (columns : ℕ) (p : Pattern Note) : Type 0 where
   pub mask : p .mask < 2 ^ columns
   pub notes : Each (λ n. n .column < columns) (p .notes)
   pub own : Own (p .mask) (p .last)
+  pub listed : p .mask ≡ maskFrom (λ n. n .column) 0 (p .notes)
 
 module _ (g : HitObjectPatternGenerator) (some : 0 < g .columns) where
   abbrev T : ℕ
   T = g .columns
 
   empty-deck : Deck T empty
-  unfolding empty
-  empty-deck = record { last = some; mask = pow-pos T; notes = tt; own = inl (refl, refl) }
+  unfolding empty maskFrom
+  empty-deck = record { last = some; mask = pow-pos T; notes = tt; own = inl (refl, refl); listed = refl }
 
   put-deck : (c : ℕ) (p : Pattern Note) → c < T → Deck T p → Deck T (put (circle c (g .start)) c p)
   unfolding put circle
-  put-deck c p l h = record { last = l; mask = or-lt T (p .mask) (2 ^ c) (h .mask) (pow-lt l); notes = each-snoc _ (p .notes) _ (h .notes) l; own = inr (or-own (p .mask) c) }
+  put-deck c p l h = record { last = l; mask = or-lt T (p .mask) (2 ^ c) (h .mask) (pow-lt l); notes = each-snoc _ (p .notes) _ (h .notes) l; own = inr (or-own (p .mask) c); listed = ap (λ (m : ℕ). bitOr m (2 ^ c)) (h .listed) ∙ sym (mask-snoc _ 0 (p .notes) _) }
 
   note-deck : (c : ℕ) (p : Pattern Note) → Deck T p → Makes (Deck T) (HitObject.addNote g c p)
   unfolding HitObject.addNote add
@@ -120,6 +121,11 @@ module _ (g : HitObjectPatternGenerator) (some : 0 < g .columns) where
   pub circle-owns : Makes (Owned T) (HitObject.generate g)
   unfolding HitObject.generate
   circle-owns = seq core-deck (λ p h. giving (record { mask = h .mask; last = h .last; own = h .own }))
+
+  -- the mask is that of the notes' columns
+  pub circle-listed : Makes (λ m. m .mask ≡ maskFrom (λ n. n .column) 0 (m .notes)) (HitObject.generate g)
+  unfolding HitObject.generate
+  circle-listed = seq core-deck (λ p h. giving (h .listed))
 
   pub circle-deck : (d : Draws) (m : Made) (e : Draws) → on (HitObject.generate g) d ≡ found m e → MadeOn m
   circle-deck d m e h = gives MadeOn (HitObject.generate g) (circle-makes .made) d m e h

@@ -1,11 +1,11 @@
 -- The mask and the last column that a slider leaves lie on the deck, and that column is one of the mask's. Assumes nothing.
-use mathlib.Core.Path.{refl}
+use mathlib.Core.Path.{_≡_, refl, sym, ap, _∙_}
 use mathlib.Core.Logic.{inl, inr}
 use Prim.Native.Nat.{ℕ, zero, suc, _-_, _^_, _<_}
 use mathlib.Core.Bool.{Bool, true, false, _&&_}
 use mathlib.Core.List.{List, [], _∷_, _++_, map}
 use lib.Dec.{eqb, leb, ltb}
-use lib.Bits.{or-lt}
+use lib.Bits.{bitOr, or-lt}
 use lib.Pow.{pow-pos, pow-lt}
 use lib.Ieee.{lt}
 use lib.ListN.{length}
@@ -18,7 +18,7 @@ use Rattle.mania.specs.Pattern.{Pattern, empty, put}
 use Rattle.mania.specs.PathObject
 use Rattle.mania.specs.Demand.{Each}
 use Rattle.mania.proofs.Masks.{or-own}
-use Rattle.mania.proofs.Ones.{Own, Owned}
+use Rattle.mania.proofs.Ones.{Own, Owned, maskFrom, mask-snoc}
 use Rattle.mania.proofs.Makes.{Makes, any, giving, refusing, seq, less, by, added, each-snoc}
 
 record Deck (columns : ℕ) (p : Pattern SliderNote) : Type 0 where
@@ -26,14 +26,15 @@ record Deck (columns : ℕ) (p : Pattern SliderNote) : Type 0 where
   mask : p .mask < 2 ^ columns
   notes : Each (λ b. b .column < columns) (p .notes)
   own : Own (p .mask) (p .last)
+  listed : p .mask ≡ maskFrom (λ b. b .column) 0 (p .notes)
 
 put-deck : (columns : ℕ) (b : SliderNote) (p : Pattern SliderNote) → b .column < columns → Deck columns p → Deck columns (put b (b .column) p)
 unfolding put
-put-deck columns b p l h = record { last = l; mask = or-lt columns (p .mask) (2 ^ b .column) (h .mask) (pow-lt l); notes = each-snoc _ (p .notes) b (h .notes) l; own = inr (or-own (p .mask) (b .column)) }
+put-deck columns b p l h = record { last = l; mask = or-lt columns (p .mask) (2 ^ b .column) (h .mask) (pow-lt l); notes = each-snoc _ (p .notes) b (h .notes) l; own = inr (or-own (p .mask) (b .column)); listed = ap (λ (m : ℕ). bitOr m (2 ^ b .column)) (h .listed) ∙ sym (mask-snoc _ 0 (p .notes) b) }
 
 empty-deck : (columns : ℕ) → 0 < columns → Deck columns empty
-unfolding empty
-empty-deck columns some = record { last = some; mask = pow-pos columns; notes = tt; own = inl (refl, refl) }
+unfolding empty maskFrom
+empty-deck columns some = record { last = some; mask = pow-pos columns; notes = tt; own = inl (refl, refl); listed = refl }
 
 -- the notes that end at the slider's end
 ending-deck : (columns end : ℕ) (bs : List SliderNote) (p : Pattern SliderNote) → Each (λ b. b .column < columns) bs → Deck columns p → Deck columns (PathObject.ending end bs p)
@@ -137,6 +138,10 @@ module _ (g : PathObjectPatternGenerator) (some : 0 < g .columns) where
   core : Makes (Deck T) (PathObject.generateCore g)
   unfolding PathObject.generateCore
   core = by (eqb T 1) _ _ (λ e. bar 0 _ _ empty first) (λ e. by (ltb 1 (g .spans)) _ _ (λ e. spans) (λ e. span))
+
+  -- the mask is that of the notes' columns
+  pub core-listed : Makes (λ p. p .mask ≡ maskFrom (λ b. b .column) 0 (p .notes)) (PathObject.generateCore g)
+  core-listed = less core (λ p h. h .listed)
 
   -- what the next object meets
   abbrev Left : Made → Type 0

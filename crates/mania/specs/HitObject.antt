@@ -284,7 +284,7 @@ chancesBy difficulty rare =
 unfoldable pub some : HitObjectPatternGenerator → Bool
 some g = not (eqb (g .mask) 0)
 
--- it has exactly one; a previous pattern lists each column once
+-- it has exactly one: a previous pattern lists each column once (`ListsOnce` of Previous)
 unfoldable pub alone : HitObjectPatternGenerator → Bool
 alone g = eqb (ones (g .mask)) 1
 

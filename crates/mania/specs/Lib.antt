@@ -16,6 +16,7 @@ pub mod Chart
 pub mod Walked
 pub mod Refusals
 pub mod Single
+pub mod Previous
 pub mod Reached
 pub mod Job
 pub mod Demand
