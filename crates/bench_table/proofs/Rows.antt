@@ -1,14 +1,14 @@
 -- The bench table's rows marked M, and the small examples of the refusals that the rules give, computed. `double a b` is the f64 nearest to
 -- a / b. Assumes nothing.
 use mathlib.Core.Path.{_≡_, refl, ap, _∙_}
-use Prim.Native.Nat.{ℕ, zero, suc, _^_}
+use Prim.Native.Nat.{ℕ, zero, suc, _-_, _^_}
 use mathlib.Core.Bool.{true, false}
 use mathlib.Core.List.{List, [], _∷_, _++_, map}
 use lib.IntN.{pos}
 use lib.Ieee.{Float, binary64, round}
 use lib.ListN.{replicate}
 use Rattle.rules.specs.Rule.{ended, refused, spent, run}
-use Rattle.rules.specs.Refusal.{lateEnd, noColumn, offDeck, tooShort, ObjectRule}
+use Rattle.rules.specs.Refusal.{tooShort, ObjectRule}
 use Rattle.random.specs.Generator.{twisted, mixed, next, low, values, seeded, between}
 use Rattle.random.specs.declared.Random.{Random}
 use Rattle.random.specs.Rows as Rows
@@ -33,8 +33,9 @@ use Rattle.mania.specs.EndTimeObject.{lasting, endNote}
 use Rattle.mania.specs.HitObject.{generateCore}
 use Rattle.mania.specs.PathObject.{startTime, endTime, spanLength}
 use Rattle.model.specs.Song.{Song}
-use Rattle.mania.specs.Convert.{at, seed, targetColumns, convert}
-use Rattle.mania.specs.Single.{Single, withRoom, entryRefusal, singleObject}
+use Rattle.mania.specs.LimitedQueue.{unknownDensity}
+use Rattle.mania.specs.Convert.{at, seed, targetColumns, factsAt, convert}
+use Rattle.mania.specs.Single.{Single, withRoom, singleObject}
 use Rattle.mania.specs.Single as Single
 use Rattle.chart.specs.Chart.{encode}
 use Rattle.chart.specs.Order.{arranged}
@@ -102,32 +103,68 @@ share-6-cs-4-od-8 = refl
 
 -- ---- M: slider times
 
-abbrev facts : Facts
-facts = record { difficulty = double 0 1; multiplier = double 1 1; beat = double 1000 1; velocity = double 1 1; kiai = false; density = double 0 1 }
+abbrev songOf : ℕ → List Object → Song
+songOf key objects =
+    record {
+      keys = key;
+      settings = settings (single 0 1) (single 0 1) (single 0 1) (single 0 1);
+      breaks = [];
+      timingPoints = [];
+      difficultyPoints = [];
+      effectPoints = [];
+      objects = objects;
+    }
 
-abbrev slider : Object
-slider = objectOf (double 10004 10) 0 (Slider 0 (D.Given (double 100 1)) N.Missing)
+abbrev slider : ℕ → Float → Object
+slider repeats distance = objectOf (double 10004 10) 0 (Slider repeats (D.Given distance) N.Missing)
 
-slider-starts : startTime slider ≡ 1000
+-- the facts in force at an object, in a song of that object and without points
+abbrev noPoints : Object → Facts
+noPoints o = factsAt (songOf 0 (o ∷ [])) (double 0 1) unknownDensity o
+
+-- then the beat lasts 1000, and the velocity is 1
+no-points : (o : Object) → (noPoints o .beat ≡ double 1000 1) × (noPoints o .velocity ≡ double 1 1)
+unfolding computing
+no-points o = (refl, refl)
+
+-- start 1000.4, distance 100
+abbrev plain : Object
+plain = slider 0 (double 100 1)
+
+slider-starts : startTime plain ≡ 1000
 unfolding computing
 slider-starts = refl
 
-slider-ends : endTime facts slider 1 (D.Given (double 100 1)) ≡ 2000
+slider-ends : endTime (noPoints plain) plain 1 (D.Given (double 100 1)) ≡ 2000
 unfolding computing
 slider-ends = refl
 
--- 3 spans over 1,000 ms
-span-333 : spanLength facts slider 2 (D.Given (double 100 3)) ≡ 333
+-- 3 spans: they last 1,000 ms together, and 333 each
+abbrev spans : Object
+spans = slider 2 (double 100 3)
+
+spans-1000 : endTime (noPoints spans) spans 3 (D.Given (double 100 3)) - startTime spans ≡ 1000
+unfolding computing
+spans-1000 = refl
+
+span-333 : spanLength (noPoints spans) spans 2 (D.Given (double 100 3)) ≡ 333
 unfolding computing
 span-333 = refl
 
--- ---- M: a spinner or hold of 99.9 is a circle, of 100 a hold
+-- ---- M: at 0 a spinner or hold of 99.9 is a circle, of 100 a hold that lasts as long
 
-hold-99 : endNote slider (lasting (objectOf (double 0 1) 0 Circle) (double 999 10)) 0 .hold ≡ false
+abbrev lasts : Float → Object
+lasts duration = objectOf (double 0 1) 0 (Hold duration)
+
+-- its note, on column 0
+abbrev noteFor : Float → Note
+noteFor duration = endNote (lasts duration) (lasting (lasts duration) duration) 0
+
+hold-99 : noteFor (double 999 10) ≡ circle 0 (double 0 1)
 unfolding computing
 hold-99 = refl
 
-hold-100 : endNote slider (lasting (objectOf (double 0 1) 0 Circle) (double 100 1)) 0 .hold ≡ true
+hold-100 : noteFor (double 100 1) ≡ record { column = 0; hold = true; start = double 0 1; duration = double 100 1 }
 unfolding computing
 hold-100 = refl
 
@@ -153,18 +190,6 @@ reverse-2 = refl
 
 -- ---- the job that `charttext` prints whole: key choice 9, settings 0, multiplier 1, one hold at 1000 for 300; 273327012 is the first value from seed 0
 
-abbrev songOf : ℕ → List Object → Song
-songOf key objects =
-    record {
-      keys = key;
-      settings = settings (single 0 1) (single 0 1) (single 0 1) (single 0 1);
-      breaks = [];
-      timingPoints = [];
-      difficultyPoints = [];
-      effectPoints = [];
-      objects = objects;
-    }
-
 abbrev holding : Song
 holding = songOf 9 (objectOf (double 1000 1) 0 (Hold (double 300 1)) ∷ [])
 
@@ -181,32 +206,47 @@ hold-chart : encode 9 1 (arranged [] (map patternOf (inWalkOrder ((held ∷ []) 
 unfolding computing
 hold-chart = refl
 
--- ---- the refusals' small examples
+-- ---- the refusals' small examples. Of a single object: the number and the state that was lent, and nothing is written
 
--- 8: 131,072 long, beat 60,000, velocity 0.1
-abbrev slow : Facts
-slow = record { difficulty = double 0 1; multiplier = double 1 1; beat = double 60000 1; velocity = double 1 10; kiai = false; density = double 0 1 }
+abbrev facts : Facts
+facts = record { difficulty = double 0 1; multiplier = double 1 1; beat = double 1000 1; velocity = double 1 1; kiai = false; density = double 0 1 }
 
 -- a previous pattern by its mask and last column
 abbrev previous : ℕ → ℕ → Stair → PrevValues
 previous mask last stair =
     record { time = double 0 1; position = record { x = single 0 1; y = single 0 1 }; mask = mask; last = last; stair = stair }
 
-refusal-8 : run (withRoom slow (previous 0 0 Up) 4 (objectOf (double 0 1) 0 (Slider 0 (D.Given (double 131072 1)) N.Missing)) 100) [] ≡ refused lateEnd 0
+-- from the state of seed 0, under an allowance of one draw, with room for one note
+abbrev one : Facts → PrevValues → ℕ → Object → Single
+one f v columns o = singleObject f v columns o (seeded 0) 1 (replicate 17 165)
+
+abbrev refusedBy : ℕ → Single
+refusedBy number = Single.refusing number (seeded 0) (replicate 17 165)
+
+-- 8: 131,072 long, beat 60,000, velocity 0.1
+abbrev slow : Facts
+slow = record { difficulty = double 0 1; multiplier = double 1 1; beat = double 60000 1; velocity = double 1 10; kiai = false; density = double 0 1 }
+
+refusal-8 : one slow (previous 0 0 Up) 4 (objectOf (double 0 1) 0 (Slider 0 (D.Given (double 131072 1)) N.Missing)) ≡ refusedBy 8
 unfolding computing
 refusal-8 = refl
 
 -- 9: spinner, 8 columns, mask 1 to 7, plain sound; the column is drawn before the search
-refusal-9 : run (withRoom facts (previous 254 7 Up) 8 (objectOf (double 0 1) 0 (Spinner (double 0 1))) 100) (273327012 ∷ []) ≡ refused noColumn 1
+refusal-9 : one facts (previous 254 7 Up) 8 (objectOf (double 0 1) 0 (Spinner (double 0 1))) ≡ refusedBy 9
 unfolding computing
 refusal-9 = refl
 
 -- 10: reverse stair at 8 columns from column 0
-refusal-10 : run (withRoom facts (previous 1 0 Reverse) 8 (objectOf (double 90 1) 0 Circle) 100) [] ≡ refused offDeck 0
+refusal-10 : one facts (previous 1 0 Reverse) 8 (objectOf (double 90 1) 0 Circle) ≡ refusedBy 10
 unfolding computing
 refusal-10 = refl
 
--- 11: 7 bytes
+-- 13: 4 columns, mask bit 4
+refusal-13 : one facts (previous 16 4 Up) 4 (objectOf (double 0 1) 0 Circle) ≡ refusedBy 13
+unfolding computing
+refusal-13 = refl
+
+-- 11, of a job: 7 bytes
 refusal-11 : run (convert holding 7) (273327012 ∷ []) ≡ refused (at 0 tooShort) 0
 unfolding computing
 refusal-11 = refl
@@ -220,11 +260,6 @@ refusal-11-notes = refl
 refusal-12 : run (convert holding 65536) [] ≡ spent 0 0
 unfolding computing
 refusal-12 = refl
-
--- 13: 4 columns, mask bit 4
-refusal-13 : entryRefusal facts (previous 16 4 Up) 4 (objectOf (double 0 1) 0 Circle) ≡ 13
-unfolding computing
-refusal-13 = refl
 
 -- 16: from the state of four zeros every value is 0, which is column 0, and column 0 is taken. The first column is drawn before the search; after 4,096
 -- draws more the search needs one beyond its limit
