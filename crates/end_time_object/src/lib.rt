@@ -31,7 +31,7 @@ fn lasting(o: Object, duration: f64) -> f64
 fn barred(mask: u16, columns: u8) -> u16
     ensures { λ r. ⌜ r ≡ (if eqb (ones mask) columns then 0 else mask) ⌝ }
 {
-    if u16::count_ones(mask) == columns as u32 {
+    if pattern::column_count(mask) == columns as u32 {
         0
     } else {
         mask

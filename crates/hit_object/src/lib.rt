@@ -58,7 +58,7 @@ fn cycles(g: HitObjectPatternGenerator) -> bool
     let columns = g.columns;
     let last = g.last;
     let mask = g.mask;
-    let alone = u16::count_ones(mask) == 1;
+    let alone = pattern::column_count(mask) == 1;
     let off_special = (columns != 8) | (last != 0);
     let off_centre = (columns % 2 == 0) | (last != columns / 2);
     has & alone & off_special & off_centre
@@ -79,7 +79,7 @@ fn climbs(g: HitObjectPatternGenerator, stair: u16) -> bool
 {
     let has = pattern::has_type(g.flags, stair);
     let mask = g.mask;
-    (u16::count_ones(mask) == 1) & has
+    (pattern::column_count(mask) == 1) & has
 }
 
 // The next column of a stair.

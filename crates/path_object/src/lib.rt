@@ -88,7 +88,7 @@ fn span_flags(g: PathObjectPatternGenerator) -> u16
     ensures { λ r. ⌜ r ≡ (if ltb (ones (g .mask)) (g .columns) then g .flags ⊔ₜ forceNotStack else g .flags) ⌝ }
 {
     let flags = g.flags;
-    let taken = u16::count_ones(g.mask);
+    let taken = pattern::column_count(g.mask);
     if taken < (g.columns as u32) {
         return flags | pattern::FORCE_NOT_STACK;
     }

@@ -3,12 +3,14 @@ ghost use mathlib.Core.Path.{_≡_};
 ghost use Prim.Native.Nat.{_-_, _^_, _≤_, _<_};
 ghost use lib.Bits.{bitOr};
 ghost use lib.Count.{ones};
+ghost use lib.ListN.{length};
 ghost use Rattle.random.specs.Play.{on};
 ghost use Rattle.mania.specs.PatternType.{contains};
 ghost use Rattle.mania.specs.Pattern.{free, anyFree};
 ghost use Rattle.mania.specs.ManiaObject as ManiaObject;
 ghost use Rattle.mania.specs.PatternGenerator.{randomStart, getColumn, noteCount, getRandomNoteCount, getRandomColumn, nextColumn, stepTo, drawTo, searchOn, columnSearch, findAvailableColumn};
 ghost use Rattle.pattern.specs.Answers.{number, searchEnd, columnOf};
+ghost use Rattle.pattern.specs.Listed.{listed};
 use floats::Way;
 use mania::Next;
 use mania::Stair;
@@ -118,9 +120,9 @@ pub fn with_column(mask: u16, c: u8) -> u16
     mask | (1 << c)
 }
 
-// How many columns a mask has.
+// A pattern's column count: the ones of its mask, which are as many as the columns that it lists.
 pub fn column_count(mask: u16) -> u32
-    ensures { λ r. ⌜ r ≡ ones mask ⌝ }
+    ensures { λ r. ⌜ (r ≡ ones mask) × (r ≡ length (listed mask 0 16)) ⌝ }
 {
     u16::count_ones(mask)
 }

@@ -36,7 +36,7 @@ fn is_moved(g: PathObjectPatternGenerator, flags: u16) -> bool
     ensures { λ r. ⌜ r ≡ (contains flags forceNotStack && ltb (ones (g .mask)) (g .columns)) ⌝ }
 {
     let apart = pattern::has_type(flags, pattern::FORCE_NOT_STACK);
-    let taken = u16::count_ones(g.mask);
+    let taken = pattern::column_count(g.mask);
     let free = taken < (g.columns as u32);
     apart & free
 }
@@ -59,7 +59,7 @@ fn holds_off(columns: u8, mask: u16, n: u32) -> u32
     ensures { λ r. ⌜ r ≡ min (columns - randomStart columns - ones mask) n ⌝ }
 {
     let deck = columns - pattern::random_start(columns);
-    let taken = u16::count_ones(mask);
+    let taken = pattern::column_count(mask);
     if (deck as u32) < taken {
         return 0;
     }
@@ -73,7 +73,7 @@ fn holds_over(columns: u8, mask: u16, n: u32) -> u32
     ensures { λ r. ⌜ (r ≡ n + ones mask - (columns - randomStart columns)) × (r ≤ 22) ⌝ }
 {
     let deck = columns - pattern::random_start(columns);
-    let all = n + u16::count_ones(mask);
+    let all = n + pattern::column_count(mask);
     if all < (deck as u32) {
         return 0;
     }

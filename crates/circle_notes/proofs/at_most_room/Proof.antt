@@ -19,7 +19,7 @@ sub-usable : tie.Need-sub-usable
 sub-usable c = rw (c .before .random-start .ensures) (start-le _)
 
 add-if1 : tie.Need-add-if1
-add-if1 c = omega (arith, c .column-count .ensures, ones-le 16 (c .before .before .args .mask) (omega arith))
+add-if1 c = omega (arith, c .column-count .ensures .0, ones-le 16 (c .before .before .args .mask) (omega arith))
 
 returns : tie.Need-returns
 returns c = search needs

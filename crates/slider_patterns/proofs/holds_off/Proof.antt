@@ -13,6 +13,9 @@ sub-deck c =
     let k = c .random-start .ensures in
     omega (arith, start-lt (c .before .args .columns) (c .before .pre))
 
+column-count-requires : tie.Need-column-count-requires
+column-count-requires c κs = search needs
+
 cast-if1 : tie.Need-cast-if1
 cast-if1 c = search needs
 
@@ -37,6 +40,7 @@ holds-off-spec =
     (tie.spec
     random-start-requires
     sub-deck
+    column-count-requires
     cast-if1
     returns
     cast-room

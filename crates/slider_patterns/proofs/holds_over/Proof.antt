@@ -14,8 +14,11 @@ sub-deck c =
     let k = c .random-start .ensures in
     omega (arith, start-lt (c .before .args .columns) (c .before .pre .0))
 
+column-count-requires : tie.Need-column-count-requires
+column-count-requires c κs = search needs
+
 add-all : tie.Need-add-all
-add-all c = omega (arith, ones-le 16 (c .before .args .mask) (c .before .fits .mask .fits))
+add-all c = omega (arith, c .column-count .ensures .0, ones-le 16 (c .before .before .args .mask) (c .before .before .fits .mask .fits))
 
 cast-if1 : tie.Need-cast-if1
 cast-if1 c = search needs
@@ -30,7 +33,7 @@ sub-result : tie.Need-sub-result
 sub-result c = search needs
 
 returns-2 : tie.Need-returns-2
-returns-2 c = (search needs, omega (arith, ones-le 16 (c .before .before .args .mask) (c .before .before .fits .mask .fits)))
+returns-2 c = (search needs, omega (arith, ones-le 16 (c .before .before .before .args .mask) (c .before .before .before .fits .mask .fits)))
 
 pub holds-over-spec : {M : Type 1} → statement M
 holds-over-spec =
@@ -38,6 +41,7 @@ holds-over-spec =
     (tie.spec
     random-start-requires
     sub-deck
+    column-count-requires
     add-all
     cast-if1
     returns
