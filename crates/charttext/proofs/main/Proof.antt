@@ -1,61 +1,36 @@
--- `charttext::main` is safe and ends. Its arrays' lengths are by the lemma: to compute one takes a step for each element. Assumes nothing.
-use mathlib.Core.Path.{_≡_, refl, sym}
-use mathlib.Core.List.{List}
-use Prim.Native.Nat.{ℕ, _+_, _*_, _≤_}
-use native.Mathlib.Omega.{arith}
-use lib.ListN.{length, replicate, length-replicate}
+-- `charttext::main` is safe and ends. Assumes nothing.
+use mathlib.Core.Path.{sym}
+use lib.Seq.{length-take-le}
+use borrow.Author.Needs.{needs}
 use Rattle.charttext.proofs.main.Statement.{statement}
 use Rattle.charttext.proofs.main.Tie as tie
 
--- n zeros are n elements
-counted : (n : ℕ) → length (replicate {A = ℕ} n 0) ≡ n
-counted n = length-replicate {A = ℕ} n 0
-
--- three bytes of text for each of the chart, and 64 more
-room : (chart text : List ℕ) → length chart ≡ 65536 → length text ≡ 196672 → 3 * length chart + 64 ≤ length text
-room chart text c t = omega arith
-
 slice-aggregate-read-full : tie.Need-slice-aggregate-read-full
-slice-aggregate-read-full c = sym (counted 65537)
+slice-aggregate-read-full c = search needs
 
 read-full-requires : tie.Need-read-full-requires
-read-full-requires c κs = tt
-
-slice-aggregate-write-all : tie.Need-slice-aggregate-write-all
-slice-aggregate-write-all c = refl
-
-write-all-requires : tie.Need-write-all-requires
-write-all-requires c κs = tt
-
-returns : tie.Need-returns
-returns c = tt
+read-full-requires c κs = search needs
 
 array-share-prefix-input : tie.Need-array-share-prefix-input
-array-share-prefix-input c = c .before .before .read-full .ensures .0
+array-share-prefix-input c = search needs
 
-slice-aggregate-answer : tie.Need-slice-aggregate-answer
-slice-aggregate-answer c = c .before .before .before .read-full .ensures .1
+slice-aggregate-put-printed : tie.Need-slice-aggregate-put-printed
+slice-aggregate-put-printed c = search needs
 
-slice-aggregate-answer-2 : tie.Need-slice-aggregate-answer-2
-slice-aggregate-answer-2 c = sym (counted 65536)
-
-slice-aggregate-answer-3 : tie.Need-slice-aggregate-answer-3
-slice-aggregate-answer-3 c = sym (counted 196672)
-
-answer-requires : tie.Need-answer-requires
-answer-requires c κs = room (replicate 65536 0) (replicate 196672 0) (counted 65536) (counted 196672)
+put-printed-requires : tie.Need-put-printed-requires
+put-printed-requires c κs = search needs
 
 array-share-prefix-text : tie.Need-array-share-prefix-text
-array-share-prefix-text c = c .before .before .answer .ensures .0 .0
+array-share-prefix-text c = c .put-printed .ensures .0 .1
 
-slice-aggregate-write-all-2 : tie.Need-slice-aggregate-write-all-2
-slice-aggregate-write-all-2 c = c .before .before .before .answer .ensures .0 .1
+slice-aggregate-write-all : tie.Need-slice-aggregate-write-all
+slice-aggregate-write-all c = sym (length-take-le _ _ (c .before .put-printed .ensures .0 .1))
 
-write-all-requires-2 : tie.Need-write-all-requires-2
-write-all-requires-2 c κs = tt
+write-all-requires : tie.Need-write-all-requires
+write-all-requires c κs = search needs
 
-returns-2 : tie.Need-returns-2
-returns-2 c = tt
+returns : tie.Need-returns
+returns c = search needs
 
 pub main-spec : {M : Type 1} → statement M
 main-spec =
@@ -63,15 +38,10 @@ main-spec =
     (tie.spec
     slice-aggregate-read-full
     read-full-requires
+    array-share-prefix-input
+    slice-aggregate-put-printed
+    put-printed-requires
+    array-share-prefix-text
     slice-aggregate-write-all
     write-all-requires
-    returns
-    array-share-prefix-input
-    slice-aggregate-answer
-    slice-aggregate-answer-2
-    slice-aggregate-answer-3
-    answer-requires
-    array-share-prefix-text
-    slice-aggregate-write-all-2
-    write-all-requires-2
-    returns-2)
+    returns)

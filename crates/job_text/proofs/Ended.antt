@@ -11,16 +11,16 @@ use Rattle.job.proofs.Read.{reads}
 use Rattle.convert.specs.Ends.{jobEnd}
 use Rattle.convert.specs.declared.JobEnd.{JobEnd}
 use Rattle.convert.specs.declared.JobEnd.the-variants as J
-use Rattle.charttext.specs.Printed.{jobText}
+use Rattle.job_text.specs.Printed.{jobText}
 
 module _ (bytes buffer made : List ℕ) (a : ℕ) (r s : JobEnd) (e : jobEnd made r ≡ job bytes buffer a) (h : r ≡ s) where
   ended : jobEnd made s ≡ job bytes buffer a
   ended = ap (jobEnd made) (sym h) ∙ e
 
   -- what is the text of the answer is the text of the job
-  pub printed : (n : ℕ) (before after : List ℕ) → (n ≡ length (jobText (jobEnd made s))) × (after ≡ splice before 0 (jobText (jobEnd made s)))
+  pub ended-text : (n : ℕ) (before after : List ℕ) → (n ≡ length (jobText (jobEnd made s))) × (after ≡ splice before 0 (jobText (jobEnd made s)))
       → (n ≡ length (jobText (job bytes buffer a))) × (after ≡ splice before 0 (jobText (job bytes buffer a)))
-  printed n before after p = subst (λ (j : Job). (n ≡ length (jobText j)) × (after ≡ splice before 0 (jobText j))) ended p
+  ended-text n before after p = subst (λ (j : Job). (n ≡ length (jobText j)) × (after ≡ splice before 0 (jobText j))) ended p
 
 -- a chart is no longer than the buffer
 pub chart-fits : (bytes buffer made : List ℕ) (a n g : ℕ) (r : JobEnd) → jobEnd made r ≡ job bytes buffer a → r ≡ J.Chart n g → n ≤ length made

@@ -1,14 +1,15 @@
--- `charttext::answer` meets its contract: the text is that of the chart, or of the refusal. Assumes nothing.
+-- `job_text::put_job` meets its contract: the text is that of the chart, or of the refusal. Assumes nothing.
 use mathlib.Core.Path.{_≡_, sym}
 use Prim.Native.Nat.{_≤_}
 use native.Mathlib.Omega.{arith}
 use lib.ListN.{length}
 use lib.Seq.{length-take-le}
 use Rattle.convert.specs.declared.JobEnd.the-variants as J
-use Rattle.charttext.proofs.Ended.{printed, chart-fits}
+use Rattle.job_text.specs.Limits.{allowance}
+use Rattle.job_text.proofs.Ended.{ended-text, chart-fits}
 use borrow.Author.Needs.{needs}
-use Rattle.charttext.proofs.answer.Statement.{statement}
-use Rattle.charttext.proofs.answer.Tie as tie
+use Rattle.job_text.proofs.put_job.Statement.{statement}
+use Rattle.job_text.proofs.put_job.Tie as tie
 
 convert-requires : tie.Need-convert-requires
 convert-requires c κs = search needs
@@ -21,7 +22,7 @@ fits : (c : tie.After-known-told) → c .before .size .given .0 .0 ≤ length (c
 fits c =
     let convert = c .before .before .before .before .before .convert in
     let start = c .before .before .before .before .before .before .before .before .before .before in
-    chart-fits (start .args .bytes .now) (start .args .chart .now) (convert .last .1 .0) 1000000 (c .before .size .given .0 .0) (c .before .size .given .0 .1 .0) (convert .result) (convert .ensures) (c .before .size .given .1)
+    chart-fits (start .args .bytes .now) (start .args .chart .now) (convert .last .1 .0) allowance (c .before .size .given .0 .0) (c .before .size .given .0 .1 .0) (convert .result) (convert .ensures) (c .before .size .given .1)
 
 slice-reshare-prefix-put-chart : tie.Need-slice-reshare-prefix-put-chart
 slice-reshare-prefix-put-chart c = fits c
@@ -58,10 +59,9 @@ returns c =
     let k = put .before .before .before in
     let convert = k .before .before .before .before .before .convert in
     let start = k .before .before .before .before .before .before .before .before .before .before in
-    let room : put .put-chart .result ≤ length (put .put-chart .last .1 .0) = omega (arith, put .put-chart .ensures .0 .1, put .put-chart .kept .1 .0) in
-    let text = printed (start .args .bytes .now) (start .args .chart .now) (convert .last .1 .0) 1000000 (convert .result) (J.Chart (k .before .size .given .0 .0) (k .before .size .given .0 .1 .0)) (convert .ensures)
+    let text = ended-text (start .args .bytes .now) (start .args .chart .now) (convert .last .1 .0) allowance (convert .result) (J.Chart (k .before .size .given .0 .0) (k .before .size .given .0 .1 .0)) (convert .ensures)
     (k .before .size .given .1) (put .put-chart .result) (start .args .text .now) (put .put-chart .last .1 .0) (put .put-chart .ensures .0 .0, put .put-chart .ensures .1) in
-    ((room, sym (length-take-le _ _ room)), text)
+    ((text .0, put .put-chart .ensures .0 .1), text .1)
 
 same-length-3 : tie.Need-same-length-3
 same-length-3 c = search needs
@@ -75,15 +75,13 @@ returns-2 c =
     let k = put .before .before in
     let convert = k .before .before .before .before .before .convert in
     let start = k .before .before .before .before .before .before .before .before .before .before in
-    let room : put .put-refusal-line .result ≤ length (put .put-refusal-line .last .0) =
-    omega (arith, put .put-refusal-line .ensures .0 .1, put .put-refusal-line .kept .0, start .pre) in
     let v = k .before .number .given in
-    let text = printed (start .args .bytes .now) (start .args .chart .now) (convert .last .1 .0) 1000000 (convert .result) (J.Refused (v .0 .0) (v .0 .1 .0) (v .0 .1 .1 .0)) (convert .ensures)
+    let text = ended-text (start .args .bytes .now) (start .args .chart .now) (convert .last .1 .0) allowance (convert .result) (J.Refused (v .0 .0) (v .0 .1 .0) (v .0 .1 .1 .0)) (convert .ensures)
     (v .1) (put .put-refusal-line .result) (start .args .text .now) (put .put-refusal-line .last .0) (omega (arith, put .put-refusal-line .ensures .0 .0), put .put-refusal-line .ensures .1) in
-    ((room, sym (length-take-le _ _ room)), text)
+    ((text .0, omega (arith, put .put-refusal-line .ensures .0 .1, start .pre)), text .1)
 
-pub answer-spec : {M : Type 1} → statement M
-answer-spec =
+pub put-job-spec : {M : Type 1} → statement M
+put-job-spec =
     tie.close
     (tie.spec
     convert-requires

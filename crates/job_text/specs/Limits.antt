@@ -1,0 +1,15 @@
+-- The buffers and the allowance with which a program converts a record (document 01, bench table). src/limits.rt has the same numbers.
+-- Assumes nothing.
+use Prim.Native.Nat.{ℕ}
+
+-- the longest record, in bytes
+abbrev pub longestRecord : ℕ
+longestRecord = 65536
+
+-- the chart buffer
+abbrev pub chartBytes : ℕ
+chartBytes = 65536
+
+-- the draws that a job may make
+abbrev pub allowance : ℕ
+allowance = 1000000
