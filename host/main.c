@@ -93,21 +93,39 @@ static int print_around(size_t length) {
     return 0;
 }
 
-/* The small record's hold alone, on 9 columns, after no other object, from the state of seed 0. It makes one note. */
+/* The small record's hold alone, after no other object, from the state of seed 0, or with some of its numbers others. It makes one note. */
+static uint32_t object(uint32_t mask_before, uint32_t last_before, uint32_t columns, uint32_t sound, uint32_t kind, uint32_t repeats, uint32_t node,
+                       uint8_t *note, uint32_t *notes, uint32_t *draws) {
+    uint32_t x = 0, y = 842502087, z = 3579807591, w = 273326509, mask, last, stair;
+    return sumopine_object(0.0, 1.0, 1000.0, 1.0, 0, 0.0, 0.0, 0.0f, 0.0f, mask_before, last_before, 0, columns, 0.0f, 0.0f, 1000.0, sound, kind,
+                           repeats, 0, 0.0, 1, node, 300.0, 1, &x, &y, &z, &w, note, SUMOPINE_NOTE_BYTES, notes, &mask, &last, &stair, draws);
+}
+
+/* Whether numbers whose low 8 or 16 bits would pass are refused: columns, mask and last column by 13, sound, repeats and node sound by 6. */
+static int wide_refused(uint8_t *note) {
+    uint32_t notes, draws, small = SUMOPINE_COLUMNS_OR_PREVIOUS;
+    if (object(0, 0, 256 + 9, 0, SUMOPINE_HOLD, 0, 0, note, &notes, &draws) != small) return 0;
+    if (object(65536, 0, 9, 0, SUMOPINE_HOLD, 0, 0, note, &notes, &draws) != small) return 0;
+    if (object(0, 256, 9, 0, SUMOPINE_HOLD, 0, 0, note, &notes, &draws) != small) return 0;
+    if (object(0, 0, 9, 256 + 8, SUMOPINE_HOLD, 0, 0, note, &notes, &draws) != SUMOPINE_OBJECT) return 0;
+    if (object(0, 0, 9, 0, SUMOPINE_SLIDER, 65536, 0, note, &notes, &draws) != SUMOPINE_OBJECT) return 0;
+    if (object(0, 0, 9, 0, SUMOPINE_SLIDER, 0, 256, note, &notes, &draws) != SUMOPINE_OBJECT) return 0;
+    return object(0, 0, 9, 0, 4, 0, 0, note, &notes, &draws) == SUMOPINE_OBJECT && notes == 0 && draws == 0;
+}
+
 static int print_object(void) {
     uint8_t *note = malloc(SUMOPINE_NOTE_BYTES);
     if (note == NULL) return 1;
-    uint32_t x = 0, y = 842502087, z = 3579807591, w = 273326509;
-    uint32_t notes, mask, last, stair, draws;
-    uint32_t refusal = sumopine_object(0.0, 1.0, 1000.0, 1.0, 0, 0.0, 0.0, 0.0f, 0.0f, 0, 0, 0, 9, 0.0f, 0.0f, 1000.0, 0, SUMOPINE_HOLD, 0, 0,
-                                       0.0, 0, 0, 300.0, 1, &x, &y, &z, &w, note, SUMOPINE_NOTE_BYTES, &notes, &mask, &last, &stair, &draws);
+    uint32_t notes, draws;
+    uint32_t refusal = object(0, 0, 9, 0, SUMOPINE_HOLD, 0, 0, note, &notes, &draws);
     if (refusal != 0) {
         printf("refused %" PRIu32 "\n", refusal);
         return 1;
     }
     printf("one object: %" PRIu32 " notes, %" PRIu32 " draws, column %d\n", notes, draws, note[0] >> 4);
+    int refused = wide_refused(note);
     free(note);
-    return 0;
+    return !refused;
 }
 
 /* An announced song: od 5.5 and cs 4 to one decimal, 10 objects of which 2 are sliders or spinners; a slider of 100 pixels, to a whole one. */

@@ -125,19 +125,20 @@ enum { SUMOPINE_CIRCLE = 0, SUMOPINE_SLIDER = 1, SUMOPINE_SPINNER = 2, SUMOPINE_
  *                      0 where there is none; of a spinner or hold its duration. What the kind has no use for may be anything.
  * The state:           four words, lent in *state_x to *state_w, which get the new state.
  *
- * A flag is set where it is not 0. A float may be anything, also a NaN: what is out of its range is refused. A kind above 3 is refused by 6.
+ * A flag is set where it is not 0. A float may be anything, also a NaN, and so may a whole number: what is out of its range is refused, and
+ * nothing is cut to a narrower width. A kind above 3 is refused by 6.
  *
- * Returns       *count           *mask     *last                *stair    *draws     the state      the notes buffer
- * 0             number of notes  new mask  the new last column  0 or 1    the draws  the new state  the notes; later bytes keep their values
- * 4 to 13, 16   0                0         0                    0         0          as lent        as lent
+ * Returns              *count           *mask     *last            *stair  *draws     the state      the notes buffer
+ * 0                    number of notes  new mask  new last column  0 or 1  the draws  the new state  the notes; later bytes keep their values
+ * 4 to 6, 8 to 13, 16  0                0         0                0       0          as lent        as lent
  *
- * The checks are made in this order: 13 for columns, mask and last column, 4 for difficulty and multiplier, 5 for beat length and velocity,
- * and 6 for the object, the previous position and time and the density. Then come 8, 10, 9, 16 and 12 as reached, and 11 for the notes
+ * The checks are made in this order: 13 for columns (1 to 9), mask and last column, 4 for difficulty and multiplier, 5 for beat length and
+ * velocity, and 6 for the object (sounds up to 15, repeats up to 1,023), the previous position and time and the density. Then come 8, 10, 9, 16 and 12 as reached, and 11 for the notes
  * buffer. */
 uint32_t sumopine_object(double difficulty, double multiplier, double beat, double velocity, uint32_t kiai, double density,
-                         double previous_time, float previous_x, float previous_y, uint16_t previous_mask, uint8_t previous_last,
-                         uint32_t previous_stair, uint8_t columns, float x, float y, double start, uint8_t sound, uint32_t kind,
-                         uint16_t repeats, uint32_t has_distance, double distance, uint32_t has_node, uint8_t node, double duration,
+                         double previous_time, float previous_x, float previous_y, uint32_t previous_mask, uint32_t previous_last,
+                         uint32_t previous_stair, uint32_t columns, float x, float y, double start, uint32_t sound, uint32_t kind,
+                         uint32_t repeats, uint32_t has_distance, double distance, uint32_t has_node, uint32_t node, double duration,
                          uint32_t allowance, uint32_t *state_x, uint32_t *state_y, uint32_t *state_z, uint32_t *state_w, uint8_t *notes,
                          size_t notes_len, uint32_t *count, uint32_t *mask, uint32_t *last, uint32_t *stair, uint32_t *draws);
 

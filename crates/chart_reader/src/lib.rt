@@ -11,9 +11,10 @@ use chart::layout::NOTE_SIZE;
 use chart::rows::note_at;
 use floats::format::INFINITY;
 ghost use mathlib.Core.Path.{_≡_};
-ghost use Prim.Native.Nat.{_<_};
+ghost use Prim.Native.Nat.{_≤_, _<_};
 ghost use lib.ListN.{length, getD};
-ghost use Rattle.chart.specs.Chart.{okHead, okNote, lasts, reading, meaning, noteIn, found, notesIn, blank};
+ghost use Rattle.chart.specs.Layout.{headerSize};
+ghost use Rattle.chart.specs.Chart.{drawsOf, okHead, okNote, lasts, reading, meaning, noteIn, found, notesIn, blank};
 ghost use Rattle.floats.specs.Format.{infinity};
 
 // A hold lasts; the duration of a circle is zero bits.
@@ -66,6 +67,14 @@ fn header_ok(chart: &[u8]) -> bool
     chart.len() == HEADER_SIZE + NOTE_SIZE * (get(chart, 1, 3) as usize)
 }
 
+// The draws in a chart's header.
+pub fn draws_in(chart: &[u8]) -> u32
+    requires { ⌜ headerSize ≤ length (now chart) ⌝ }
+    ensures { λ r. ⌜ r ≡ drawsOf (now (chart .entry)) ⌝ }
+{
+    get(chart, 4, 4) as u32
+}
+
 pub fn read(chart: &[u8]) -> Answer
     ensures { λ r. ⌜ meaning r ≡ reading (now (chart .entry)) ⌝ }
 {
@@ -92,7 +101,7 @@ pub fn read(chart: &[u8]) -> Answer
     Answer::Chart {
         columns: columns as u32,
         notes,
-        draws: get(chart, 4, 4) as u32,
+        draws: draws_in(chart),
     }
 }
 

@@ -27,11 +27,12 @@ same-notes : (notes : List ℕ) (e : SingleEnd) → notes ≡ singleEnd notes e 
 same-notes notes (E.Made n mask last stair random draws) = refl
 same-notes notes (E.Refused n random) = refl
 
--- the entry's answer for equal values
-pub gives : (f f₁ : Facts) (v v₁ : PrevValues) (columns : ℕ) (o o₁ : Object) (lent : Random) (allowance : ℕ) (entry exit : List ℕ) (e : SingleEnd) (t : Told)
-    → f ≡ f₁ → v ≡ v₁ → o ≡ o₁ → singleEnd exit e ≡ singleObject f v columns o lent allowance entry → ((notes : List ℕ) → t ≡ told (singleEnd notes e .answer))
-    → Gives (singleObject f₁ v₁ columns o₁ lent allowance entry) t exit
-gives f f₁ v v₁ columns o o₁ lent allowance entry exit e t hf hv ho says tells =
+-- the entry's answer for equal values, which is that for other numbers too
+pub gives : (f f₁ : Facts) (v v₁ : PrevValues) (columns columns₁ : ℕ) (o o₁ : Object) (lent : Random) (allowance : ℕ) (entry exit : List ℕ) (e : SingleEnd) (t : Told) (whole : Single)
+    → f ≡ f₁ → v ≡ v₁ → columns ≡ columns₁ → o ≡ o₁ → singleObject f₁ v₁ columns₁ o₁ lent allowance entry ≡ whole
+    → singleEnd exit e ≡ singleObject f v columns o lent allowance entry → ((notes : List ℕ) → t ≡ told (singleEnd notes e .answer))
+    → Gives whole t exit
+gives f f₁ v v₁ columns columns₁ o o₁ lent allowance entry exit e t whole hf hv hc ho same says tells =
     subst (λ (s : Single). Gives s t exit)
-    (says ∙ ap₂ (λ (f : Facts) (v : PrevValues). singleObject f v columns o lent allowance entry) hf hv ∙ ap (λ (o : Object). singleObject f₁ v₁ columns o lent allowance entry) ho)
+    (says ∙ ap₂ (λ (f : Facts) (v : PrevValues). singleObject f v columns o lent allowance entry) hf hv ∙ ap₂ (λ (c : ℕ) (o : Object). singleObject f₁ v₁ c o lent allowance entry) hc ho ∙ same)
     (tells exit, same-notes exit e)

@@ -2,7 +2,7 @@
 use mathlib.Core.Path.{_≡_}
 use mathlib.Core.Bool.{Bool, not, cond}
 use mathlib.Core.List.{List}
-use Prim.Native.Nat.{ℕ, zero, suc}
+use Prim.Native.Nat.{ℕ, zero, suc, min}
 use lib.Dec.{eqb}
 use lib.Ieee.{Float}
 use Rattle.random.specs.declared.Random.{Random}
@@ -20,7 +20,16 @@ use Rattle.mania.specs.declared.Stair.the-variants.{Up, Reverse}
 use Rattle.mania.specs.Single.{Single, Answer, made, refusal}
 use Rattle.object_numbers.specs.declared.Told.{Told}
 
--- ---- what is lent: a flag is set where it is not 0
+-- ---- what is lent
+
+-- a number in a field of 8 or of 16 bits: one that the field cannot hold becomes its largest value
+abbrev pub saturate8 : ℕ → ℕ
+saturate8 n = min n 255
+
+abbrev pub saturate16 : ℕ → ℕ
+saturate16 n = min n 65535
+
+-- a flag is set where it is not 0
 
 abbrev pub isSet : ℕ → Bool
 isSet n = not (eqb n 0)

@@ -13,7 +13,7 @@ ghost use mathlib.Core.Path.{_≡_};
 ghost use mathlib.Core.List.{List};
 ghost use Prim.Native.Nat.{ℕ};
 ghost use Rattle.single.specs.Ends.{singleEnd};
-ghost use Rattle.object_numbers.specs.Single.{isSet, distanceOf, nodeOf, kindOf, objectOf, factsOf, stairOf, previousOf, stairNumber, told};
+ghost use Rattle.object_numbers.specs.Single.{saturate8, saturate16, isSet, distanceOf, nodeOf, kindOf, objectOf, factsOf, stairOf, previousOf, stairNumber, told};
 
 // An answer: the refusal's number, or 0, and what the outputs get.
 pub struct Told {
@@ -24,6 +24,20 @@ pub struct Told {
     pub stair: u32,
     pub state: Random,
     pub draws: u32,
+}
+
+// A host's number for a field of 8 bits. One that the field cannot hold becomes its largest value, which is refused as the number itself is.
+pub fn saturate_u8(n: u32) -> u8
+    ensures { λ r. ⌜ r ≡ saturate8 n ⌝ }
+{
+    if n < 255 { n as u8 } else { 255 }
+}
+
+// The same for 16 bits.
+pub fn saturate_u16(n: u32) -> u16
+    ensures { λ r. ⌜ r ≡ saturate16 n ⌝ }
+{
+    if n < 65535 { n as u16 } else { 65535 }
 }
 
 fn is_set(n: u32) -> bool
@@ -42,20 +56,22 @@ pub fn distance_of(given: u32, d: f64) -> Distance
     }
 }
 
-pub fn node_of(given: u32, s: u8) -> NodeSound
-    ensures { λ r. ⌜ r ≡ nodeOf given s ⌝ }
+pub fn node_of(given: u32, sound: u32) -> NodeSound
+    ensures { λ r. ⌜ r ≡ nodeOf given (saturate8 sound) ⌝ }
 {
+    let sound = saturate_u8(sound);
     if is_set(given) {
-        NodeSound::Given(s)
+        NodeSound::Given(sound)
     } else {
         NodeSound::Missing
     }
 }
 
 // A number that is no kind's gives a slider that is refused by 6.
-pub fn kind_of(kind: u32, repeats: u16, distance: Distance, node: NodeSound, duration: f64) -> Kind
-    ensures { λ r. ⌜ r ≡ kindOf kind repeats distance node duration ⌝ }
+pub fn kind_of(kind: u32, repeats: u32, distance: Distance, node: NodeSound, duration: f64) -> Kind
+    ensures { λ r. ⌜ r ≡ kindOf kind (saturate16 repeats) distance node duration ⌝ }
 {
+    let repeats = saturate_u16(repeats);
     match kind {
         0 => Kind::Circle,
         1 => Kind::Slider {
@@ -73,10 +89,11 @@ pub fn kind_of(kind: u32, repeats: u16, distance: Distance, node: NodeSound, dur
     }
 }
 
-pub fn object_of(x: f32, y: f32, start: f64, sound: u8, kind: Kind) -> Object
-    ensures { λ r. ⌜ r ≡ objectOf x y start sound kind ⌝ }
+pub fn object_of(x: f32, y: f32, start: f64, sound: u32, kind: Kind) -> Object
+    ensures { λ r. ⌜ r ≡ objectOf x y start (saturate8 sound) kind ⌝ }
 {
     let position = Position { x, y };
+    let sound = saturate_u8(sound);
     Object {
         position,
         start,
@@ -116,10 +133,12 @@ fn stair_of(reverse: u32) -> Stair
     }
 }
 
-pub fn previous_of(time: f64, x: f32, y: f32, mask: u16, last: u8, reverse: u32) -> PrevValues
-    ensures { λ r. ⌜ r ≡ previousOf time x y mask last reverse ⌝ }
+pub fn previous_of(time: f64, x: f32, y: f32, mask: u32, last: u32, reverse: u32) -> PrevValues
+    ensures { λ r. ⌜ r ≡ previousOf time x y (saturate16 mask) (saturate8 last) reverse ⌝ }
 {
     let position = Position { x, y };
+    let mask = saturate_u16(mask);
+    let last = saturate_u8(last);
     let stair = stair_of(reverse);
     PrevValues {
         time,

@@ -1,4 +1,5 @@
 -- What a host in C gets.
 pub mod Numbers
+pub mod Notes
 pub mod Announced
 pub mod Lookups

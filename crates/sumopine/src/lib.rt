@@ -10,20 +10,10 @@ use convert::JobEnd;
 use rules::numbers;
 ghost use mathlib.Core.Path.{_≡_};
 ghost use mathlib.Core.Bool.{cond};
-ghost use Prim.Native.Nat.{_≤_};
-ghost use lib.ListN.{length};
 ghost use Rattle.job.specs.Job.{job};
 ghost use Rattle.job.specs.Job as Job;
-ghost use Rattle.chart.specs.Chart.{drawsOf, reading, noteIn};
+ghost use Rattle.chart.specs.Chart.{reading, noteIn};
 ghost use Rattle.sumopine.specs.Numbers.{numberOf, lengthOf, objectOf, longestOf, readNumber, readColumns, readNotes, readDraws, isFound, columnIn, holdIn, startIn, durationIn};
-
-// The draws in a chart's header.
-fn draws_in(chart: &[u8]) -> u32
-    requires { ⌜ 8 ≤ length (now chart) ⌝ }
-    ensures { λ r. ⌜ r ≡ drawsOf (now (chart .entry)) ⌝ }
-{
-    chart::bytes::get(chart, 4, 4) as u32
-}
 
 // A job, of a record's bytes: 0, the chart's length and the most draws of one search, or the refusal's number and the object's index; and the draws made.
 #[no_mangle]
@@ -47,7 +37,7 @@ pub extern "C" fn sumopine_convert(
         JobEnd::Chart(n, g) => {
             *length = n as u64;
             *object = 0;
-            *draws = draws_in(chart);
+            *draws = chart_reader::draws_in(chart);
             *longest_search = g;
             0
         }

@@ -3,7 +3,7 @@ use random::Random;
 ghost use Rattle.mania.specs.Single.{singleObject};
 ghost use Rattle.object_numbers.specs.Single.{distanceOf, nodeOf, kindOf, objectOf, factsOf, previousOf, stateOf, tells, Gives};
 
-// Converts one object. The state is lent and comes back in the same four words; the notes are written from the buffer's start.
+// Converts one object. A whole number may be anything: the contract is on the host's own numbers, also where a field cannot hold one. The state is lent and comes back in the same four words; the notes are written from the buffer's start.
 #[no_mangle]
 pub extern "C" fn sumopine_object(
     difficulty: f64,
@@ -15,20 +15,20 @@ pub extern "C" fn sumopine_object(
     previous_time: f64,
     previous_x: f32,
     previous_y: f32,
-    previous_mask: u16,
-    previous_last: u8,
+    previous_mask: u32,
+    previous_last: u32,
     previous_stair: u32,
-    columns: u8,
+    columns: u32,
     x: f32,
     y: f32,
     start: f64,
-    sound: u8,
+    sound: u32,
     kind: u32,
-    repeats: u16,
+    repeats: u32,
     has_distance: u32,
     distance: f64,
     has_node: u32,
-    node: u8,
+    node: u32,
     duration: f64,
     allowance: u32,
     state_x: &mut u32,
@@ -64,13 +64,14 @@ pub extern "C" fn sumopine_object(
     let n = object_numbers::node_of(has_node, node);
     let k = object_numbers::kind_of(kind, repeats, d, n, duration);
     let o = object_numbers::object_of(x, y, start, sound, k);
+    let c = object_numbers::saturate_u8(columns);
     let lent = Random {
         x: *state_x,
         y: *state_y,
         z: *state_z,
         w: *state_w,
     };
-    let t = object_numbers::tell(single::convert_object(f, v, columns, o, lent, allowance, notes));
+    let t = object_numbers::tell(single::convert_object(f, v, c, o, lent, allowance, notes));
     let s = t.state;
     *state_x = s.x;
     *state_y = s.y;

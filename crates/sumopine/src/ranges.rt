@@ -5,8 +5,11 @@ use announced::Ends;
 use announced::SettingRange;
 use announced::Slider;
 use model::Position;
+use object_numbers::node_of;
+use object_numbers::saturate_u8;
+use object_numbers::saturate_u16;
 ghost use mathlib.Core.Path.{_≡_};
-ghost use Prim.Native.Nat.{min};
+ghost use Rattle.object_numbers.specs.Single.{saturate8, saturate16};
 ghost use Rattle.sumopine.specs.Announced.{settingRange, distanceRange, sliderOf, CountsTold, EndsTold};
 
 // The column counts that some f32 values in the ranges yield: 0 and a bit for each count, or the refusal's number and 0.
@@ -42,13 +45,7 @@ pub extern "C" fn sumopine_column_counts(
     }
 }
 
-fn at_most(x: u32, most: u32) -> u32
-    ensures { λ r. ⌜ r ≡ min x most ⌝ }
-{
-    if x < most { x } else { most }
-}
-
-// A slider from a host's numbers. What its field cannot hold becomes the field's largest value, which is refused as the number itself is.
+// A slider from a host's numbers, each as its field holds it.
 fn slider_of(
     multiplier: f64,
     beat: f64,
@@ -61,18 +58,18 @@ fn slider_of(
     has_node: u32,
     node: u32,
 ) -> Slider
-    ensures { λ r. ⌜ r ≡ sliderOf multiplier beat velocity x y start (min sound 255) (min repeats 65535) «has_node» (min node 255) ⌝ }
+    ensures { λ r. ⌜ r ≡ sliderOf multiplier beat velocity x y start (saturate8 sound) (saturate16 repeats) «has_node» (saturate8 node) ⌝ }
 {
     let position = Position { x, y };
-    let node = object_numbers::node_of(has_node, at_most(node, 255) as u8);
+    let node = node_of(has_node, node);
     Slider {
         multiplier,
         beat,
         velocity,
         position,
         start,
-        sound: at_most(sound, 255) as u8,
-        repeats: at_most(repeats, 65535) as u16,
+        sound: saturate_u8(sound),
+        repeats: saturate_u16(repeats),
         node,
     }
 }

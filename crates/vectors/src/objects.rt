@@ -29,21 +29,27 @@ fn previous(s: &[u8]) -> PrevValues {
         double(s, 44),
         single(s, 52),
         single(s, 56),
-        half(s, 60),
-        byte(s, 62),
+        half(s, 60) as u32,
+        byte(s, 62) as u32,
         word(s, 63),
     )
 }
 
 fn object(s: &[u8]) -> Object {
     let distance = object_numbers::distance_of(word(s, 91), double(s, 95));
-    let node = object_numbers::node_of(word(s, 103), byte(s, 107));
-    let kind = object_numbers::kind_of(word(s, 85), half(s, 89), distance, node, double(s, 108));
+    let node = object_numbers::node_of(word(s, 103), byte(s, 107) as u32);
+    let kind = object_numbers::kind_of(
+        word(s, 85),
+        half(s, 89) as u32,
+        distance,
+        node,
+        double(s, 108),
+    );
     object_numbers::object_of(
         single(s, 68),
         single(s, 72),
         double(s, 76),
-        byte(s, 84),
+        byte(s, 84) as u32,
         kind,
     )
 }

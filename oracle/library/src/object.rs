@@ -14,20 +14,20 @@ mod c {
             previous_time: f64,
             previous_x: f32,
             previous_y: f32,
-            previous_mask: u16,
-            previous_last: u8,
+            previous_mask: u32,
+            previous_last: u32,
             previous_stair: u32,
-            columns: u8,
+            columns: u32,
             x: f32,
             y: f32,
             start: f64,
-            sound: u8,
+            sound: u32,
             kind: u32,
-            repeats: u16,
+            repeats: u32,
             has_distance: u32,
             distance: f64,
             has_node: u32,
-            node: u8,
+            node: u32,
             duration: f64,
             allowance: u32,
             state_x: *mut u32,
@@ -75,21 +75,12 @@ impl From<SingleEnd> for Numbers {
 #[derive(Clone, Copy, Debug)]
 pub struct KindNumbers {
     pub kind: u32,
-    pub repeats: u16,
+    pub repeats: u32,
     pub has_distance: u32,
     pub distance: f64,
     pub has_node: u32,
-    pub node: u8,
+    pub node: u32,
     pub duration: f64,
-}
-
-/// A number at a narrower width. Each range ends below the largest number of that width, so that one that is too wide stays out of range.
-fn narrow8(n: u32) -> u8 {
-    n.try_into().unwrap_or(u8::MAX)
-}
-
-fn narrow16(n: u32) -> u16 {
-    n.try_into().unwrap_or(u16::MAX)
 }
 
 impl KindNumbers {
@@ -98,11 +89,11 @@ impl KindNumbers {
         let flag = (junk as u32).max(1);
         let spare = Self {
             kind: 0,
-            repeats: junk as u16,
+            repeats: (junk >> 8) as u32,
             has_distance: junk as u32 & 1,
             distance: float,
             has_node: junk as u32 & 2,
-            node: junk as u8,
+            node: (junk >> 16) as u32,
             duration: float,
         };
 
@@ -110,11 +101,11 @@ impl KindNumbers {
             Kind::Circle => spare,
             Kind::Slider { repeats, distance, node_sound } => Self {
                 kind: 1,
-                repeats: narrow16(repeats),
+                repeats,
                 has_distance: distance.map_or(0, |_| flag),
                 distance: distance.unwrap_or(float),
                 has_node: node_sound.map_or(0, |_| flag),
-                node: node_sound.map_or(spare.node, narrow8),
+                node: node_sound.unwrap_or(spare.node),
                 duration: float,
             },
             Kind::Spinner { duration } => Self { kind: 2, duration, ..spare },
@@ -138,14 +129,14 @@ pub fn convert(ask: &Single, kind: KindNumbers, notes: &mut [u8]) -> Numbers {
             ask.prev_time,
             ask.prev_x,
             ask.prev_y,
-            narrow16(ask.prev_mask),
-            narrow8(ask.prev_last),
+            ask.prev_mask,
+            ask.prev_last,
             ask.reverse_stair.into(),
-            narrow8(ask.columns),
+            ask.columns,
             ask.x,
             ask.y,
             ask.start,
-            narrow8(ask.sound),
+            ask.sound,
             kind.kind,
             kind.repeats,
             kind.has_distance,

@@ -8,7 +8,7 @@ use borrow.Author.Needs.{needs}
 use borrow.Author.Tests.{not-true, not-false}
 use lib.ListN.{length, drop}
 use Rattle.chart.specs.Layout.{chartSize}
-use Rattle.chart.specs.Chart.{okHead, okRows, columnsOf, countOf, drawsOf}
+use Rattle.chart.specs.Chart.{okHead, okRows, columnsOf, countOf}
 use Rattle.floats.specs.Format.{infinity}
 use Rattle.chart.specs.Laws.Reader.{refused-head, refused-rows, all-pass, head-size, rows-end, row-zeros, row-note, row-next, note-fits}
 use Rattle.chart_reader.proofs.read.Statement.{statement}
@@ -99,19 +99,16 @@ loop-again c =
 cast-t20 : tie.Need-cast-t20 Inv-loop μ-loop
 cast-t20 c = search needs
 
-get-requires-2 : tie.Need-get-requires-2 Inv-loop μ-loop
-get-requires-2 c κs = let all = size (c .before .before) in search needs
-
-cast-t21 : tie.Need-cast-t21 Inv-loop μ-loop
-cast-t21 c = search needs
+draws-in-requires : tie.Need-draws-in-requires Inv-loop μ-loop
+draws-in-requires c κs = let all = size (c .before .before) in search needs
 
 returns-4 : tie.Need-returns-4 Inv-loop μ-loop
-unfolding columnsOf countOf drawsOf
+unfolding columnsOf countOf
 returns-4 c =
     let s = c .before .before .before .before .before .before .before .before .args .chart .now in
     let l = c .before .before in
     let count = l .before .get .ensures .0 in
-    rw (count, c .get2 .ensures .0)
+    rw (count, c .draws-in .ensures)
     (all-pass s (okay (l .before .before)) (rw (← count) (sym (l .loop .inv .1 .1) ∙ rows-end _ _ _ (l .loop .i) _ (search needs))))
 
 pub read-spec : {M : Type 1} → statement M
@@ -138,6 +135,5 @@ read-spec =
     loop-less
     loop-again
     cast-t20
-    get-requires-2
-    cast-t21
+    draws-in-requires
     returns-4)

@@ -1,11 +1,11 @@
 -- `sumopine::ranges::sumopine_slider_ends` meets its contract: what an arm binds are the numbers of the answer, and a number above its field is refused
 -- as the field's largest value is (`told-whole`). Assumes nothing.
 use mathlib.Core.Path.{refl, sym, subst}
-use Prim.Native.Nat.{min}
 use native.Mathlib.Omega.{arith}
 use borrow.Author.Needs.{needs}
 use Rattle.announced.specs.declared.Slider.{Slider}
 use Rattle.announced.specs.Announced.{EndsAre}
+use Rattle.object_numbers.specs.Single.{saturate8, saturate16}
 use Rattle.sumopine.specs.Announced.{distanceRange, sliderOf}
 use Rattle.sumopine.proofs.Cut.{told-whole}
 use Rattle.sumopine.proofs.ranges.sumopine_slider_ends.Statement.{statement}
@@ -15,7 +15,7 @@ use Rattle.sumopine.proofs.ranges.sumopine_slider_ends.Tie as tie
 abbrev cut-slider : tie.After-possible-ends → Slider
 cut-slider c =
     let a = c .before .before .args in
-    sliderOf (a .multiplier) (a .beat) (a .velocity) (a .x) (a .y) (a .start) (min (a .sound) 255) (min (a .repeats) 65535) (a .has-node) (min (a .node) 255)
+    sliderOf (a .multiplier) (a .beat) (a .velocity) (a .x) (a .y) (a .start) (saturate8 (a .sound)) (saturate16 (a .repeats)) (a .has-node) (saturate8 (a .node))
 
 asked : (c : tie.After-possible-ends) → EndsAre (cut-slider c) (distanceRange (c .before .before .args .distance-low) (c .before .before .args .distance-high)) (c .possible-ends .result)
 asked c =

@@ -1,8 +1,8 @@
--- `sumopine::draws_in` meets its contract. Assumes nothing.
+-- `chart_reader::draws_in` meets its contract. Assumes nothing.
 use borrow.Author.Needs.{needs}
 use Rattle.chart.specs.Chart.{drawsOf}
-use Rattle.sumopine.proofs.draws_in.Statement.{statement}
-use Rattle.sumopine.proofs.draws_in.Tie as tie
+use Rattle.chart_reader.proofs.draws_in.Statement.{statement}
+use Rattle.chart_reader.proofs.draws_in.Tie as tie
 
 get-requires : tie.Need-get-requires
 get-requires c κs = search needs
