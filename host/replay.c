@@ -1,56 +1,16 @@
 /* Replays recorded jobs through the library, each in memory of exactly its length, and compares the answers. Every job is converted twice: in a
  * chart buffer of known bytes, to see that those after the chart keep their values, and in one that was never written, so that valgrind sees
  * whether anything depends on what was lent.
- *     replay JOBS
- * The file is its jobs one after the other. A job is three parts, each behind its length in 32 bits: the record; six numbers of 32 bits,
- * which are the buffer's length, the allowance, the answer's number (0: a chart), object, draws and longest search; and the chart. Numbers
- * have their highest byte first. */
+ *     replay JOBS */
 #include <inttypes.h>
 #include <stdio.h>
 #include <stdlib.h>
 #include <string.h>
 
+#include "jobs.h"
 #include "sumopine.h"
 
 #define KNOWN 1
-
-/* A job, and how it ended: with a chart of `length` bytes or refused, at an object, after so many draws. */
-struct job {
-    uint8_t *record, *chart;
-    uint32_t record_len, chart_len, allowance;
-    uint32_t refusal, length, object, draws, longest_search;
-};
-
-static uint32_t number(FILE *file) {
-    uint32_t value = 0;
-    for (int i = 0; i < 4; i++) value = value << 8 | (uint32_t)(fgetc(file) & 255);
-    return value;
-}
-
-/* Memory of exactly this length, with the file's next bytes in it, or not initialised. */
-static uint8_t *block(FILE *file, size_t length) {
-    uint8_t *bytes = malloc(length);
-    if (bytes == NULL || (file != NULL && fread(bytes, 1, length, file) != length)) {
-        fprintf(stderr, "replay: no memory, or the file is cut\n");
-        exit(2);
-    }
-    return bytes;
-}
-
-static struct job read_job(FILE *file) {
-    struct job job = {.record_len = number(file)};
-    job.record = block(file, job.record_len);
-    number(file); /* the length of the numbers */
-    job.chart_len = number(file);
-    job.allowance = number(file);
-    job.refusal = number(file);
-    job.object = number(file);
-    job.draws = number(file);
-    job.longest_search = number(file);
-    job.length = number(file);
-    job.chart = block(file, job.length);
-    return job;
-}
 
 static int all(const uint8_t *bytes, size_t length, uint8_t value) {
     for (size_t i = 0; i < length; i++)
@@ -88,10 +48,8 @@ int main(int count, char **arguments) {
         return 2;
     }
     unsigned jobs = 0, differ = 0;
-    int next;
-    while ((next = fgetc(file)) != EOF) {
-        ungetc(next, file);
-        struct job job = read_job(file);
+    struct job job;
+    while (next_job(file, &job)) {
         differ += !replay(&job);
         jobs++;
         free(job.record);

@@ -1,7 +1,7 @@
 #!/bin/sh
 # Builds the proved library and the hosts. The host prints the chart of its small record, which is compared; the recorded jobs are replayed.
 # Both run under valgrind, where there is one: nothing outside the lent memory is read or written, and nothing depends on bytes of it that were
-# never written. Both run once more built with gcc's sanitizers, where it has them.
+# never written. Both run once more built with gcc's sanitizers, where it has them. A third host measures the stack that calls take.
 set -e
 cd "$(dirname "$0")/.."
 rt staticlib sumopine
@@ -17,6 +17,9 @@ hosts() {
     diff target/host-printed host/expected
     $watch target/host-replay crates/vectors/data/jobs.bin
 }
+
+gcc -O2 -Wall -Wextra -Werror -std=gnu11 -Iinclude -o target/host-stack host/stack.c target/staticlib/libsumopine.a
+target/host-stack crates/vectors/data/jobs.bin
 
 if command -v valgrind > /dev/null; then
     hosts "valgrind -q --error-exitcode=1 --leak-check=full"

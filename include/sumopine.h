@@ -3,7 +3,12 @@
  * A buffer is a pointer and a length in bytes. Pointers are never null, also where a length is 0, and what is written through one pointer
  * is reached through no other pointer of the same call. Nothing is kept, allocated or freed: all memory stays the caller's.
  * There is no global state, so that calls on different memory may run at the same time on any number of threads.
- * A job needs at most 64 KiB of stack. Every output is set in every case, as said at each function, and its memory need not be initialised. */
+ * Every output is set in every case, as said at each function, and its memory need not be initialised.
+ *
+ * What the host owes beside that:
+ * - SUMOPINE_STACK_BYTES of stack for a call. host/run.sh measures what calls take.
+ * - The floating-point environment that C starts with: rounding to nearest, and no flushing of subnormal numbers to zero (on x86-64 the
+ *   rounding bits and the bits FTZ and DAZ of MXCSR are 0). In another one charts may differ. */
 #ifndef SUMOPINE_H
 #define SUMOPINE_H
 
@@ -17,6 +22,9 @@ extern "C" {
 /* Bytes of a chart's header and of each of its notes. */
 #define SUMOPINE_HEADER_BYTES 8
 #define SUMOPINE_NOTE_BYTES 17
+
+/* Stack that a call takes at most. */
+#define SUMOPINE_STACK_BYTES 65536
 
 /* The refusals. */
 enum {
