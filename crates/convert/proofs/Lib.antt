@@ -1,3 +1,4 @@
 pub mod Songs
 pub mod Jobs
 pub mod Demand
+pub mod EntryPasses

@@ -35,7 +35,7 @@ pub record Small (n : ℕ) (x : Float) : Type 0 where
   pub real : T (finite x)
   pub most : num x ≤ n * den x
 
-small-of : (n : ℕ) (x : Float) → UpTo n x → Small n x
+pub small-of : (n : ℕ) (x : Float) → UpTo n x → Small n x
 small-of n nan h = absurd (h .size)
 small-of n (inf s) h = absurd (h .size)
 small-of n (fin s m e) h = record { real = tt; most = h .high }
@@ -77,7 +77,7 @@ round-small f s a c n C small h =
 cross : (a b c d p q : ℕ) → a ≤ p * c → b ≤ q * d → a * b ≤ p * q * (c * d)
 cross a b c d p q h k = le-trans (mul-le-mul h k) (le-of-eq (mul-mul-mul-comm p c q d))
 
-mul-small : (f : Format) (x y : Float) (p q : ℕ) → Small p x → Small q y → p * q ≤ 2 ^ prec f → Small (p * q) (mul f x y)
+pub mul-small : (f : Format) (x y : Float) (p q : ℕ) → Small p x → Small q y → p * q ≤ 2 ^ prec f → Small (p * q) (mul f x y)
 unfolding mul
 mul-small f nan y p q h k small = absurd (h .real)
 mul-small f (inf s) y p q h k small = absurd (h .real)
@@ -92,7 +92,7 @@ pub record Large (y : Float) : Type 0 where
   pub real : T (finite y)
   pub least : den y ≤ num y
 
-div-small : (f : Format) (x y : Float) (p : ℕ) → Small p x → Large y → p ≤ 2 ^ prec f → Small p (div f x y)
+pub div-small : (f : Format) (x y : Float) (p : ℕ) → Small p x → Large y → p ≤ 2 ^ prec f → Small p (div f x y)
 unfolding div
 div-small f nan y p h k small = absurd (h .real)
 div-small f (inf s) y p h k small = absurd (h .real)
@@ -120,7 +120,7 @@ sum-small f s t a b c n C small h = pick (Bool·beq s t) (ltb a b)
     pick false true = round-small f t (b - a) c n C small (omega arith)
     pick false false = round-small f (s && ltb b a) (a - b) c n C small (omega arith)
 
-add-small : (f : Format) (x y : Float) (p q : ℕ) → Small p x → Small q y → p + q ≤ 2 ^ prec f → Small (p + q) (add f x y)
+pub add-small : (f : Format) (x y : Float) (p q : ℕ) → Small p x → Small q y → p + q ≤ 2 ^ prec f → Small (p + q) (add f x y)
 unfolding add
 add-small f nan y p q h k small = absurd (h .real)
 add-small f (inf s) y p q h k small = absurd (h .real)
@@ -138,7 +138,7 @@ add-small f (fin s m e) (fin t n d) p q h k small =
 
 -- ---- the numbers that go in
 
-large-whole : (s : Bool) (n : ℕ) → suc n ≤ 2 ^ 53 → Large (round binary64 s (suc n) 1)
+pub large-whole : (s : Bool) (n : ℕ) → suc n ≤ 2 ^ 53 → Large (round binary64 s (suc n) 1)
 large-whole s n h = go (round binary64 s (suc n) 1) (round-whole binary64 s (suc n) h)
   where
     up-by : (a d : ℕ) → a * 1 ≡ suc n * d → d ≤ a
@@ -181,7 +181,7 @@ large-drain (fin s m e) = signed-large s (rounded Cut s (m * up e) (down e))
 small-whole : (n : ℕ) → n ≤ 2 ^ 53 → Small n (double n 1)
 small-whole n h = round-small binary64 false n 1 n (lit< tt) h (le-of-eq (sym (mul-one n)))
 
-small-int : (n : ℕ) → n ≤ 2 ^ 53 → Small n (double# n)
+pub small-int : (n : ℕ) → n ≤ 2 ^ 53 → Small n (double# n)
 unfolding ofInt
 small-int n h = small-whole n h
 
