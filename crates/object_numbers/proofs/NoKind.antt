@@ -14,10 +14,10 @@ use Rattle.model.specs.declared.Kind.the-variants.{Slider}
 use Rattle.mania.specs.declared.Facts.{Facts}
 use Rattle.mania.specs.declared.PrevValues.{PrevValues}
 use Rattle.mania.specs.Single.{inside, positionFits, patternFits, settingsFit, pointsFit, kindFits, objectFits, entryRefusal}
-use Rattle.object_numbers.specs.Single.{kindOf, objectOf}
+use Rattle.object_numbers.specs.Single.{largest16, kindOf, objectOf}
 
 pub no-kind : (k repeats : ℕ) (distance : Distance) (node : NodeSound) (duration : Float) → (k ≡ 0 → ⊥) → (k ≡ 1 → ⊥) → (k ≡ 2 → ⊥) → (k ≡ 3 → ⊥)
-    → kindOf k repeats distance node duration ≡ Slider 65535 D.Missing N.Missing
+    → kindOf k repeats distance node duration ≡ Slider largest16 D.Missing N.Missing
 unfolding kindOf
 no-kind zero repeats distance node duration h₀ h₁ h₂ h₃ = absurd (h₀ refl)
 no-kind (suc zero) repeats distance node duration h₀ h₁ h₂ h₃ = absurd (h₁ refl)

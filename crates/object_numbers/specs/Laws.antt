@@ -24,7 +24,7 @@ use Rattle.mania.specs.declared.PrevValues.{PrevValues}
 use Rattle.mania.specs.Laws.Tests.{two, three, four}
 use Rattle.mania.specs.Laws.Singles.{pattern-fits, single-checked}
 use Rattle.mania.specs.Single.{inside, positionFits, patternFits, settingsFit, pointsFit, distanceFits, nodeFits, kindFits, objectFits, entryRefusal, singleObject}
-use Rattle.object_numbers.specs.Single.{saturate8, saturate16, isSet, nodeOf, kindOf, objectOf, previousOf}
+use Rattle.object_numbers.specs.Single.{largest8, largest16, saturate8, saturate16, isSet, nodeOf, kindOf, objectOf, previousOf}
 
 -- ---- one number
 
@@ -47,7 +47,7 @@ unfolding nodeFits
 node-test given n = go (isSet given)
   where
     go : (b : Bool) → nodeFits (cond b (N.Given (saturate8 n)) N.Missing) ≡ nodeFits (cond b (N.Given n) N.Missing)
-    go true = same-test n 255 16 (omega arith)
+    go true = same-test n largest8 16 (omega arith)
     go false = refl
 
 pub node-itself : (given n : ℕ) → nodeFits (nodeOf given (saturate8 n)) ≡ true → nodeOf given (saturate8 n) ≡ nodeOf given n
@@ -55,7 +55,7 @@ unfolding nodeFits
 node-itself given n = go (isSet given)
   where
     go : (b : Bool) → nodeFits (cond b (N.Given (saturate8 n)) N.Missing) ≡ true → _≡_ {A = NodeSound} (cond b (N.Given (saturate8 n)) N.Missing) (cond b (N.Given n) N.Missing)
-    go true h = ap N.Given (itself n 255 16 (omega arith) (ltb-true (saturate8 n) 16 h))
+    go true h = ap N.Given (itself n largest8 16 (omega arith) (ltb-true (saturate8 n) 16 h))
     go false h = refl
 
 module _ (repeats : ℕ) (distance : Distance) (given node : ℕ) (duration : Float) where
@@ -68,7 +68,7 @@ module _ (repeats : ℕ) (distance : Distance) (given node : ℕ) (duration : Fl
   kind-test : (kind : ℕ) → kindFits (cut-kind kind) ≡ kindFits (whole-kind kind)
   unfolding kindOf kindFits
   kind-test zero = refl
-  kind-test (suc zero) = rw (same-test repeats 65535 mostSpans (omega arith), node-test given node) refl
+  kind-test (suc zero) = rw (same-test repeats largest16 mostSpans (omega arith), node-test given node) refl
   kind-test (suc (suc zero)) = refl
   kind-test (suc (suc (suc zero))) = refl
   kind-test (suc (suc (suc (suc k)))) = refl
@@ -79,7 +79,7 @@ module _ (repeats : ℕ) (distance : Distance) (given node : ℕ) (duration : Fl
   kind-itself (suc zero) e =
       let t = three (ltb (saturate16 repeats) mostSpans) (distanceFits distance) (nodeFits (nodeOf given (saturate8 node))) e in
       ap₂ (λ (r : ℕ) (n : NodeSound). Slider r distance n)
-      (itself repeats 65535 mostSpans (omega arith) (ltb-true (saturate16 repeats) mostSpans (t .0))) (node-itself given node (t .2))
+      (itself repeats largest16 mostSpans (omega arith) (ltb-true (saturate16 repeats) mostSpans (t .0))) (node-itself given node (t .2))
   kind-itself (suc (suc zero)) e = refl
   kind-itself (suc (suc (suc zero))) e = refl
   kind-itself (suc (suc (suc (suc k)))) e = refl
@@ -136,7 +136,7 @@ module _ (f : Facts) (time before-x before-y : Float) (mask last reverse columns
 
   object-test : objectFits f cut-previous cut-object ≡ objectFits f previous object
   unfolding objectFits
-  object-test = rw (same-test sound 255 16 (omega arith), kind-test repeats distance given node duration kind) refl
+  object-test = rw (same-test sound largest8 16 (omega arith), kind-test repeats distance given node duration kind) refl
 
   object-itself : objectFits f cut-previous cut-object ≡ true → cut-object ≡ object
   unfolding objectFits
@@ -148,7 +148,7 @@ module _ (f : Facts) (time before-x before-y : Float) (mask last reverse columns
       let rest = two (place && begins && soft && kinds && positionFits (cut-previous .position) && finite time) (finite (f .density)) e .0 in
       let t = four (place && begins && soft) kinds (positionFits (cut-previous .position)) (finite time) rest in
       ap₂ (λ (s : ℕ) (k : Kind). objectOf x y start s k)
-      (itself sound 255 16 (omega arith) (ltb-true (saturate8 sound) 16 (three place begins soft (t .0) .2))) (kind-itself repeats distance given node duration kind (t .1))
+      (itself sound largest8 16 (omega arith) (ltb-true (saturate8 sound) 16 (three place begins soft (t .0) .2))) (kind-itself repeats distance given node duration kind (t .1))
 
   same-refusal : entryRefusal f cut-previous (saturate8 columns) cut-object ≡ entryRefusal f previous columns object
   unfolding entryRefusal

@@ -22,12 +22,19 @@ use Rattle.object_numbers.specs.declared.Told.{Told}
 
 -- ---- what is lent
 
--- a number in a field of 8 or of 16 bits: one that the field cannot hold becomes its largest value
+-- the largest numbers of a field of 8 and of 16 bits
+abbrev pub largest8 : ℕ
+largest8 = 255
+
+abbrev pub largest16 : ℕ
+largest16 = 65535
+
+-- a number in such a field: one that the field cannot hold becomes its largest
 abbrev pub saturate8 : ℕ → ℕ
-saturate8 n = min n 255
+saturate8 n = min n largest8
 
 abbrev pub saturate16 : ℕ → ℕ
-saturate16 n = min n 65535
+saturate16 n = min n largest16
 
 -- a flag is set where it is not 0
 
@@ -46,7 +53,7 @@ kindOf zero repeats distance node duration = Circle
 kindOf (suc zero) repeats distance node duration = Slider repeats distance node
 kindOf (suc (suc zero)) repeats distance node duration = Spinner duration
 kindOf (suc (suc (suc zero))) repeats distance node duration = Hold duration
-kindOf (suc (suc (suc (suc k)))) repeats distance node duration = Slider 65535 D.Missing N.Missing
+kindOf (suc (suc (suc (suc k)))) repeats distance node duration = Slider largest16 D.Missing N.Missing
 
 abbrev pub objectOf : Float → Float → Float → ℕ → Kind → Object
 objectOf x y start sound kind = record { position = record { x = x; y = y }; start = start; sound = sound; kind = kind }

@@ -26,18 +26,31 @@ pub struct Told {
     pub draws: u32,
 }
 
-// A host's number for a field of 8 bits. One that the field cannot hold becomes its largest value, which is refused as the number itself is.
+// The largest numbers of a field of 8 and of 16 bits. specs/Single.antt has the same.
+const LARGEST_8: u8 = 255;
+
+const LARGEST_16: u16 = 65535;
+
+// A host's number for a field of 8 bits. One that the field cannot hold becomes its largest, which is refused as the number itself is.
 pub fn saturate_u8(n: u32) -> u8
     ensures { λ r. ⌜ r ≡ saturate8 n ⌝ }
 {
-    if n < 255 { n as u8 } else { 255 }
+    if n < LARGEST_8 as u32 {
+        n as u8
+    } else {
+        LARGEST_8
+    }
 }
 
 // The same for 16 bits.
 pub fn saturate_u16(n: u32) -> u16
     ensures { λ r. ⌜ r ≡ saturate16 n ⌝ }
 {
-    if n < 65535 { n as u16 } else { 65535 }
+    if n < LARGEST_16 as u32 {
+        n as u16
+    } else {
+        LARGEST_16
+    }
 }
 
 fn is_set(n: u32) -> bool
@@ -82,7 +95,7 @@ pub fn kind_of(kind: u32, repeats: u32, distance: Distance, node: NodeSound, dur
         2 => Kind::Spinner(duration),
         3 => Kind::Hold(duration),
         _ => Kind::Slider {
-            repeats: 65535,
+            repeats: LARGEST_16,
             distance: Distance::Missing,
             node: NodeSound::Missing,
         },
