@@ -6,7 +6,7 @@
  * Every output is set in every case, as said at each function, and its memory need not be initialised.
  *
  * What the host owes beside that:
- * - SUMOPINE_STACK_BYTES of stack for a call. host/run.sh measures what calls take.
+ * - SUMOPINE_STACK_BYTES of stack for a call. host/run.sh measures what calls take: some 35 KiB.
  * - The floating-point environment that C starts with: rounding to nearest, and no flushing of subnormal numbers to zero (on x86-64 the
  *   rounding bits and the bits FTZ and DAZ of MXCSR are 0). In another one charts may differ. */
 #ifndef SUMOPINE_H
@@ -141,8 +141,8 @@ enum { SUMOPINE_CIRCLE = 0, SUMOPINE_SLIDER = 1, SUMOPINE_SPINNER = 2, SUMOPINE_
  * 4 to 6, 8 to 13, 16  0                0         0                0       0          as lent        as lent
  *
  * The checks are made in this order: 13 for columns (1 to 9), mask and last column, 4 for difficulty and multiplier, 5 for beat length and
- * velocity, and 6 for the object (sounds up to 15, repeats up to 1,023), the previous position and time and the density. Then come 8, 10, 9, 16 and 12 as reached, and 11 for the notes
- * buffer. */
+ * velocity, and 6 for the object (sounds up to 15, repeats up to 1,023), the previous position and time and the density. Then come 8, 10, 9,
+ * 16 and 12 as reached, and 11 for the notes buffer. */
 uint32_t sumopine_object(double difficulty, double multiplier, double beat, double velocity, uint32_t kiai, double density,
                          double previous_time, float previous_x, float previous_y, uint32_t previous_mask, uint32_t previous_last,
                          uint32_t previous_stair, uint32_t columns, float x, float y, double start, uint32_t sound, uint32_t kind,
