@@ -38,7 +38,7 @@ use Rattle.model.specs.declared.Settings.{Settings}
 use Rattle.model.specs.Song.{Song}
 use Rattle.model.specs.Totals.{longer, slidersAndSpinners}
 use Rattle.mania.specs.Steps.{single, single#, double}
-use Rattle.mania.specs.Single.{inside, patternFits, settingsFit, objectFits, entryRefusal, pointsFit, positionFits, distanceFits as distanceIn, nodeFits, kindFits}
+use Rattle.mania.specs.Single.{inside, patternFits, allowedDifficulty, settingsFit, objectFits, entryRefusal, pointsFit, positionFits, distanceFits as distanceIn, nodeFits, kindFits}
 use Rattle.mania.specs.PathObject.{endTime, startTime, distanceOf, latest}
 use Rattle.mania.specs.Laws.Tests.{two, three}
 use Rattle.mania.specs.Laws.SliderTimes.{end-mono}
@@ -350,7 +350,7 @@ module _ (s : Slider) where
   pattern-fits = refl
 
   settings-fit : settingsFit (factsOf s) ≡ inside multiplierRange (s .multiplier)
-  unfolding settingsFit factsOf round le lt eq
+  unfolding settingsFit allowedDifficulty factsOf round le lt eq
   settings-fit = and-true (inside multiplierRange (s .multiplier))
 
   abbrev objectTests : Bool

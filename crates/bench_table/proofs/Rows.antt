@@ -34,7 +34,7 @@ use Rattle.mania.specs.HitObject.{generateCore}
 use Rattle.mania.specs.PathObject.{startTime, endTime, spanLength}
 use Rattle.model.specs.Song.{Song}
 use Rattle.mania.specs.LimitedQueue.{unknownDensity}
-use Rattle.mania.specs.Convert.{at, seed, targetColumns, factsAt, convert}
+use Rattle.mania.specs.Convert.{at, seed, targetColumns, songFacts, factsAt, convert}
 use Rattle.mania.specs.Single.{Single, withRoom, singleObject}
 use Rattle.mania.specs.Single as Single
 use Rattle.chart.specs.Chart.{encode}
@@ -120,7 +120,7 @@ slider repeats distance = objectOf (double 10004 10) 0 (Slider repeats (D.Given 
 
 -- the facts in force at an object, in a song of that object and without points
 abbrev noPoints : Object → Facts
-noPoints o = factsAt (songOf 0 (o ∷ [])) (double 0 1) unknownDensity o
+noPoints o = factsAt (songFacts (songOf 0 (o ∷ []))) unknownDensity o
 
 -- then the beat lasts 1000, and the velocity is 1
 no-points : (o : Object) → (noPoints o .beat ≡ double 1000 1) × (noPoints o .velocity ≡ double 1 1)

@@ -41,10 +41,9 @@ use Rattle.mania.specs.declared.PrevValues.{PrevValues}
 use Rattle.mania.specs.Steps.{double, double#}
 use Rattle.mania.specs.Made.{Made}
 use Rattle.mania.specs.LimitedQueue.{Density, lastSeven, densityOf, computeDensity, unknownDensity}
-use Rattle.mania.specs.PatternGenerator.{conversionDifficulty}
 use Rattle.mania.specs.PathObject as PathObject
 use Rattle.mania.specs.Object.{byKind, object}
-use Rattle.mania.specs.Convert.{Walk, columnsOf, beginning, meets, factsAt, nodeTime, nodes, spanIn, leaves, timeAfter, positionAfter, walkAfter, afterObject}
+use Rattle.mania.specs.Convert.{Walk, SongFacts, columnsOf, difficultyOf, songFacts, beginning, meets, factsAt, nodeTime, nodes, spanIn, leaves, timeAfter, positionAfter, walkAfter, afterObject}
 use Rattle.mania.specs.Refusals.{Late}
 use Rattle.mania.specs.Reached.{walkTo, reaches}
 use Rattle.mania.specs.Demand.{Each}
@@ -53,7 +52,7 @@ use Rattle.mania.proofs.Makes as Makes
 use Rattle.mania.proofs.Makes.{Makes, any, each-snoc, ran}
 use Rattle.mania.proofs.Reach.{reasons}
 use Rattle.mania.proofs.Demand.{few-columns}
-use Rattle.settings.specs.Difficulty.{Small, small-of, Large, large-whole, small-int, mul-small, div-small, add-small, conversion-twelve}
+use Rattle.settings.specs.Difficulty.{Small, small-of, Large, large-whole, small-int, mul-small, div-small, add-small, difficulty-allowed}
 use Rattle.convert.specs.EntryPasses.{EntryPasses}
 
 -- ---- sizes
@@ -233,13 +232,13 @@ next-steady f o made w fit timely h =
       dense = leaves-dense o _ start span (o .kind) _ (fit .kind) (meets-dense (o .kind) (o .start) (w .density) (near start) (h .dense));
     }
 
-walk-steady : (s : Song) (difficulty : Float) (columns k : ℕ) (w : Walk) (os : List Object) → Each FitObject os → Steady w → Makes Steady (walkTo s difficulty columns k w os)
+walk-steady : (s : SongFacts) (columns k : ℕ) (w : Walk) (os : List Object) → Each FitObject os → Steady w → Makes Steady (walkTo s columns k w os)
 unfolding walkTo
-walk-steady s difficulty columns zero w os fit h = Makes.giving h
-walk-steady s difficulty columns (suc k) w [] fit h = Makes.giving h
-walk-steady s difficulty columns (suc k) w (o ∷ os) fit h =
-    let f = factsAt s difficulty (meets (o .kind) (o .start) (w .density)) o in
-    Makes.seq (object-timely f (w .prev) columns o) (λ made timely. walk-steady s difficulty columns k _ os (fit .1) (next-steady f o made w (fit .0) timely h))
+walk-steady s columns zero w os fit h = Makes.giving h
+walk-steady s columns (suc k) w [] fit h = Makes.giving h
+walk-steady s columns (suc k) w (o ∷ os) fit h =
+    let f = factsAt s (meets (o .kind) (o .start) (w .density)) o in
+    Makes.seq (object-timely f (w .prev) columns o) (λ made timely. walk-steady s columns k _ os (fit .1) (next-steady f o made w (fit .0) timely h))
 
 -- ---- the points in force
 
@@ -307,18 +306,18 @@ module _ (bytes : List ℕ) (s : Song) (p : parse bytes ≡ accepted s) where
   fit : FitSong s
   fit = fit-song bytes s p
 
-  settings-in : (f : Facts) → f .multiplier ≡ s .settings .multiplier → f .difficulty ≡ conversionDifficulty (s .settings) (s .breaks) (s .objects) → settingsFit f ≡ true
+  settings-in : (f : Facts) → f .multiplier ≡ s .settings .multiplier → f .difficulty ≡ difficultyOf s → settingsFit f ≡ true
   unfolding settingsFit ofInt
   settings-in f m d =
-      let t = conversion-twelve (s .settings) (s .breaks) (s .objects)
+      let t = difficulty-allowed s
       (record { hp = fit .settings .hp .inside; cs = fit .settings .cs .inside; od = fit .settings .od .inside; ar = fit .settings .ar .inside }) (fit .few-objects) in
-      rw (m, d, is-true (inside multiplierRange (s .settings .multiplier)) (fit .settings .multiplier .inside), t .real, t .most)
+      rw (m, d, is-true (inside multiplierRange (s .settings .multiplier)) (fit .settings .multiplier .inside), t)
 
   step : (k a n : ℕ) (r : Random) (w : Walk) → run (reaches s k) (values a r) ≡ ended w n → (o : Object) (os : List Object) → drop k (s .objects) ≡ o ∷ os
-      → entryRefusal (factsAt s (conversionDifficulty (s .settings) (s .breaks) (s .objects)) (meets (o .kind) (o .start) (w .density)) o) (w .prev) (columnsOf s) o ≡ 0
-  unfolding factsAt reaches pointsFit
+      → entryRefusal (factsAt (songFacts s) (meets (o .kind) (o .start) (w .density)) o) (w .prev) (columnsOf s) o ≡ 0
+  unfolding songFacts factsAt reaches pointsFit
   step k a n r w u o os e =
-      let steady = ran Steady (reaches s k) (walk-steady s _ (columnsOf s) k beginning (s .objects) (fit .objects) begins-steady .made) r a w n u in
+      let steady = ran Steady (reaches s k) (walk-steady (songFacts s) (columnsOf s) k beginning (s .objects) (fit .objects) begins-steady .made) r a w n u in
       let own : FitObject o = subst (Each FitObject) e (each-drop FitObject k (s .objects) (fit .objects)) .0 in
       let start = small-span (o .start) (own .start .inside) in
       none-fails _ (w .prev) (columnsOf s) o

@@ -2,3 +2,4 @@ pub mod Songs
 pub mod Jobs
 pub mod Demand
 pub mod EntryPasses
+pub mod Difficulty

@@ -10,8 +10,7 @@ use Rattle.random.specs.declared.Random.{Random}
 use Rattle.model.specs.Song.{Song}
 use Rattle.model.specs.declared.Object.{Object}
 use Rattle.record.specs.Record.{accepted, parse}
-use Rattle.mania.specs.PatternGenerator.{conversionDifficulty}
-use Rattle.mania.specs.Convert.{Walk, columnsOf, meets, factsAt}
+use Rattle.mania.specs.Convert.{Walk, columnsOf, songFacts, meets, factsAt}
 use Rattle.mania.specs.Reached.{reaches}
 use Rattle.mania.specs.Single.{entryRefusal}
 
@@ -20,4 +19,4 @@ pub record EntryPasses (bytes : List ℕ) : Type 0 where
   -- the walk has come to w after k objects, from any state, and o is the next
   pub passes : (s : Song) → parse bytes ≡ accepted s → (k a n : ℕ) (r : Random) (w : Walk) → run (reaches s k) (values a r) ≡ ended w n
       → (o : Object) (os : List Object) → drop k (s .objects) ≡ o ∷ os
-      → entryRefusal (factsAt s (conversionDifficulty (s .settings) (s .breaks) (s .objects)) (meets (o .kind) (o .start) (w .density)) o) (w .prev) (columnsOf s) o ≡ 0
+      → entryRefusal (factsAt (songFacts s) (meets (o .kind) (o .start) (w .density)) o) (w .prev) (columnsOf s) o ≡ 0

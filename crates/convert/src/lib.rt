@@ -3,16 +3,18 @@ ghost use mathlib.Core.Path.{_≡_};
 ghost use Prim.Native.Nat.{_≤_};
 ghost use lib.ListN.{length, replicate};
 ghost use Rattle.job.specs.Job.{job};
+ghost use Rattle.record.specs.Record.{songOf};
 ghost use Rattle.record.specs.Laws.Known.{Known};
 ghost use Rattle.mania.specs.Job.{refusing};
 ghost use Rattle.walk.specs.Steps.{Ends};
-ghost use Rattle.convert.specs.Ends.{jobEnd, OfSummary, songRule};
+ghost use Rattle.convert.specs.Ends.{jobEnd, numbersOf, withoutPoints, songRule};
 use model::limits::MOST_NOTES;
 use random::Draws;
 use random::Tally;
 use record::Checked;
 use record::Summary;
 use rules::numbers;
+use walk::PointCounts;
 use walk::Song;
 use walk::WalkEnd;
 
@@ -22,31 +24,52 @@ pub enum JobEnd {
     Refused(u8, u32, u32),
 }
 
-// What the walk takes of the song that a record has.
+// The numbers that the walk takes of a record's song. The difficulty is worked out here, once a job.
 fn song_of(bytes: &[u8], m: Summary) -> Song
     requires { ⌜ Known (now bytes) m ⌝ }
-    ensures { λ r. ⌜ OfSummary (now (bytes .entry)) m r ⌝ }
+    ensures { λ r. ⌜ r ≡ numbersOf (songOf (now (bytes .entry))) (m .counts) ⌝ }
 {
     let settings = m.settings;
     let counts = m.counts;
-    let places = m.places;
     let objects = counts.objects as u32;
     let long = m.long as u32;
     let breaks = record::section::total_break_time(bytes, record::layout::BREAKS, counts.breaks);
     let columns = settings::columns_of(m.keys, settings, long, objects);
     let difficulty = settings::conversion_difficulty(settings, breaks, m.first, m.last, objects);
+    let points = PointCounts {
+        timing: counts.timing,
+        difficulty: counts.difficulty,
+        effect: counts.effect,
+    };
     Song {
         columns,
         difficulty,
         multiplier: settings.multiplier,
-        counts,
-        places,
+        points,
     }
 }
 
-// The objects' part of the record: from the byte that holds the first object's first bit; without objects it is nothing.
+// The same numbers, where the walk receives no points.
+fn without_points(g: Song) -> Song
+    ensures { λ r. ⌜ r ≡ withoutPoints g ⌝ }
+{
+    let points = PointCounts {
+        timing: 0,
+        difficulty: 0,
+        effect: 0,
+    };
+    Song {
+        columns: g.columns,
+        difficulty: g.difficulty,
+        multiplier: g.multiplier,
+        points,
+    }
+}
+
+// The walk receives the record from the first timing point's byte, for the points, and from the byte that holds the first object's first bit; without
+// objects it receives nothing.
 fn walk_part(bytes: &[u8], m: Summary, chart: &mut [u8], g: Song, d: Draws) -> WalkEnd
-    requires { ⌜ Known (now bytes) m × OfSummary (now bytes) m g × (8 ≤ length (now chart)) ⌝ }
+    requires { ⌜ Known (now bytes) m × (g ≡ numbersOf (songOf (now bytes)) (m .counts)) × (8 ≤ length (now chart)) ⌝ }
     ensures { λ r. ⌜ Ends (songRule (now (bytes .entry)) (length (now (chart .entry))) d) (now (chart .entry)) (now (chart .exit)) r ⌝ }
 {
     let mut words: [u64; MOST_NOTES] = [0; MOST_NOTES];
@@ -56,21 +79,23 @@ fn walk_part(bytes: &[u8], m: Summary, chart: &mut [u8], g: Song, d: Draws) -> W
     let count = counts.objects;
     let first = places.objects;
     if count == 0 {
+        let none = without_points(g);
         return walk::walk_objects(
-            bytes,
+            &bytes[0..0],
             &bytes[0..0],
             chart,
             &mut words,
             &mut spare,
-            g,
+            none,
             0,
             0,
             d,
         );
     }
+    let points = places.timing / 8;
     let start = first / 8;
     walk::walk_objects(
-        bytes,
+        &bytes[points..],
         &bytes[start..],
         chart,
         &mut words,

@@ -9,7 +9,6 @@ use lib.Dec.{lit≤}
 use borrow.Author.Tests.{ltb-true}
 use lib.ListN.{length, take, drop, length-append, length-drop}
 use lib.Seq.{take-at}
-use lib.Ieee.{Float}
 use Rattle.model.specs.Limits.{mostRepeats, mostSpans, mostNotes, mostEntries, latestStart}
 use Rattle.rules.specs.Rule.{Outcome, ended, run, taken, Done}
 use Rattle.rules.specs.Rule as Rule
@@ -30,7 +29,7 @@ use Rattle.model.specs.declared.Kind.the-variants.{Circle, Slider, Spinner, Hol
 use Rattle.mania.specs.LimitedQueue.{Density}
 use Rattle.mania.specs.Chart.{patternOf, inWalkOrder, written}
 use Rattle.model.specs.Song.{Song}
-use Rattle.mania.specs.Convert.{AtObject, seed, columnsOf, factsAt, convert}
+use Rattle.mania.specs.Convert.{AtObject, seed, columnsOf, songFacts, factsAt, convert}
 use Rattle.mania.specs.Job.{ending, refusing, under}
 use Rattle.mania.specs.Job as OfSong
 use Rattle.mania.specs.Demand.{Each}
@@ -48,12 +47,12 @@ use Rattle.job.proofs.Sliders.{beat-at, velocity-at, not-before}
 
 -- ---- the notes that can come from the objects of an accepted record
 
-kind-fine : (columns : ℕ) (s : Song) (difficulty : Float) (d : Density) (o : Object) (k : Kind) → FitSong s → Span latestStart (o .start) → FitKind k
-    → Fine (Okay columns) (factsAt s difficulty d o) columns o k
-unfolding factsAt
-kind-fine columns s difficulty d o Circle fit h g = circle-notes columns (o .start) h
-kind-fine columns s difficulty d o (Slider repeats distance node) fit h g =
-    let later = not-before (factsAt s difficulty d o) o (repeats + 1) distance (spans repeats (g .0)) (g .1) (velocity-at (s .difficultyPoints) (o .start) (fit .velocities))
+kind-fine : (columns : ℕ) (s : Song) (d : Density) (o : Object) (k : Kind) → FitSong s → Span latestStart (o .start) → FitKind k
+    → Fine (Okay columns) (factsAt (songFacts s) d o) columns o k
+unfolding factsAt songFacts
+kind-fine columns s d o Circle fit h g = circle-notes columns (o .start) h
+kind-fine columns s d o (Slider repeats distance node) fit h g =
+    let later = not-before (factsAt (songFacts s) d o) o (repeats + 1) distance (spans repeats (g .0)) (g .1) (velocity-at (s .difficultyPoints) (o .start) (fit .velocities))
     (beat-at (s .timingPoints) (o .start) (fit .beats)) (fit .multiplier) in (
       λ c t e on l m late. bar-notes columns c t e on l (le-trans m late),
       λ c on late. bar-notes columns c _ _ on later late,
@@ -62,14 +61,14 @@ kind-fine columns s difficulty d o (Slider repeats distance node) fit h g =
   where
     spans : (n : ℕ) → n ≤ mostRepeats → n + 1 ≤ mostSpans
     spans n h = omega arith
-kind-fine columns s difficulty d o (Spinner duration) fit h g = end-notes columns o duration h g
-kind-fine columns s difficulty d o (Hold duration) fit h g = end-notes columns o duration h g
+kind-fine columns s d o (Spinner duration) fit h g = end-notes columns o duration h g
+kind-fine columns s d o (Hold duration) fit h g = end-notes columns o duration h g
 
-objects-fine : (columns : ℕ) (s : Song) (difficulty : Float) → FitSong s → (os : List Object) → Each FitObject os
-    → Each (λ o. (d : Density) → Fine (Okay columns) (factsAt s difficulty d o) columns o (o .kind)) os
-objects-fine columns s difficulty fit [] h = tt
-objects-fine columns s difficulty fit (o ∷ os) h =
-    (λ d. kind-fine columns s difficulty d o (o .kind) fit (h .0 .0) (h .0 .1), objects-fine columns s difficulty fit os (h .1))
+objects-fine : (columns : ℕ) (s : Song) → FitSong s → (os : List Object) → Each FitObject os
+    → Each (λ o. (d : Density) → Fine (Okay columns) (factsAt (songFacts s) d o) columns o (o .kind)) os
+objects-fine columns s fit [] h = tt
+objects-fine columns s fit (o ∷ os) h =
+    (λ d. kind-fine columns s d o (o .kind) fit (h .0 .0) (h .0 .1), objects-fine columns s fit os (h .1))
 
 -- ---- from the notes of each object to those of the chart
 
@@ -103,7 +102,7 @@ module _ (s buffer : List ℕ) (r : Song) (e : parse s ≡ accepted r) (a n : �
   okay-all : Each (Okay (columnsOf r)) (inWalkOrder nss)
   okay-all =
       let fit = fit-song s r e in
-      walk-each _ nss (ended-notes (Okay (columnsOf r)) r buffer (objects-fine (columnsOf r) r _ fit (r .objects) (fit .objects)) a n nss u)
+      walk-each _ nss (ended-notes (Okay (columnsOf r)) r buffer (objects-fine (columnsOf r) r fit (r .objects) (fit .objects)) a n nss u)
 
   -- the notes fit the fields of a chart
   pub fits-all : Fits (map patternOf (inWalkOrder nss))

@@ -15,7 +15,7 @@ use Rattle.random.specs.Generator.{seeded}
 use Rattle.random.specs.Laws.Allowance.{lawful}
 use Rattle.model.specs.Song.{Song}
 use Rattle.mania.specs.declared.Note.{Note}
-use Rattle.mania.specs.Convert.{AtObject, at, seed, columnsOf, convert}
+use Rattle.mania.specs.Convert.{AtObject, at, seed, columnsOf, songFacts, convert}
 use Rattle.mania.specs.Refusals.{InWalk, TooLong}
 use Rattle.mania.specs.Job.{Answer, refusal, Job, ending, refusing, under, ledgerUnder}
 use Rattle.mania.specs.Job as OfSong
@@ -64,7 +64,7 @@ module _ (bytes buffer : List ℕ) (s : Song) (p : parse bytes ≡ accepted s) (
   by-outcome g (Rule.refused x m) u e =
       let is : Refusal.number (x .refusal) ≡ r = ap number e in
       let in-table = numbered (x .refusal) in
-      let in-walk : InWalk s 0 (s .objects) x = refused-meets (convert s (length buffer)) (convert-ends s (length buffer) deck) a (seeded (seed (s .settings))) x m u in
+      let in-walk : InWalk (songFacts s) 0 (s .objects) x = refused-meets (convert s (length buffer)) (convert-ends s (length buffer) deck) a (seeded (seed (s .settings))) x m u in
       record {
         from = omega (arith, in-table .0);
         to = subst (λ (k : ℕ). (k ≤ 12) ⊎ (k ≡ 16)) is (up-to (Refusal.number (x .refusal)) (in-table .1));

@@ -31,7 +31,7 @@ use Rattle.mania.specs.Range.{FewRepeats, InRange}
 use Rattle.mania.specs.Chart.{inWalkOrder}
 use Rattle.mania.specs.Convert
 use Rattle.model.specs.Song.{Song}
-use Rattle.mania.specs.Convert.{Walk, at, seed, columnsOf, convert}
+use Rattle.mania.specs.Convert.{Walk, SongFacts, songFacts, at, seed, columnsOf, convert}
 use Rattle.mania.specs.Job.{under}
 use Rattle.mania.specs.Demand.{Each}
 use Rattle.random.specs.Play.{on}
@@ -300,15 +300,15 @@ module _ (columns : ℕ) (some : 1 ≤ columns) (deck : columns ≤ 9) where
       seq (kind-few f (w .prev) o (o .kind) h)
       (λ made h. by (ltb room (chartSize (w .notes + length (made .notes)))) _ _ (λ e. refusing) (λ e. giving h))
 
-  walk-few : (s : Song) (difficulty : Float) (room i : ℕ) (w : Walk) (os : List Object) → Each InRange os
-      → Makes (λ nss. length (inWalkOrder nss) ≤ mostNotes * length os) (Convert.walk s difficulty columns room i w os)
+  walk-few : (s : SongFacts) (room i : ℕ) (w : Walk) (os : List Object) → Each InRange os
+      → Makes (λ nss. length (inWalkOrder nss) ≤ mostNotes * length os) (Convert.walk s columns room i w os)
   unfolding Convert.walk inWalkOrder
-  walk-few s difficulty room i w [] h = giving (omega arith)
-  walk-few s difficulty room i w (o ∷ os) h =
+  walk-few s room i w [] h = giving (omega arith)
+  walk-few s room i w (o ∷ os) h =
       let d = Convert.meets (o .kind) (o .start) (w .density) in
-      let f = Convert.factsAt s difficulty d o in
+      let f = Convert.factsAt s d o in
       seq (labelled (λ p. i) (at i) (object-few room f w o (h .0 .repeats)))
-      (λ made k. seq (walk-few s difficulty room (suc i) (Convert.afterObject f o d made w) os (h .1))
+      (λ made k. seq (walk-few s room (suc i) (Convert.afterObject f o d made w) os (h .1))
       (λ rest l. giving (more (length (made .notes)) (length (inWalkOrder rest)) (length os) k l (length-append (made .notes) (inWalkOrder rest)))))
     where
       more : (a b n : ℕ) {c : ℕ} → a ≤ mostNotes → b ≤ mostNotes * n → c ≡ a + b → c ≤ mostNotes * suc n
@@ -317,7 +317,7 @@ module _ (columns : ℕ) (some : 1 ≤ columns) (deck : columns ≤ 9) where
 convert-few : (s : Song) (room : ℕ) → columnsOf s ≤ 9 → Each InRange (s .objects)
     → Makes (λ nss. length (inWalkOrder nss) ≤ mostNotes * length (s .objects)) (convert s room)
 unfolding convert
-convert-few s room deck h = by (ltb room 8) _ _ (λ e. refusing) (λ e. walk-few (columnsOf s) (some-columns s) deck s _ room 0 _ (s .objects) h)
+convert-few s room deck h = by (ltb room 8) _ _ (λ e. refusing) (λ e. walk-few (columnsOf s) (some-columns s) deck (songFacts s) room 0 _ (s .objects) h)
 
 -- the number of an accepted job's notes
 pub ended-few : (s : Song) (buffer : List ℕ) → columnsOf s ≤ 9 → Each InRange (s .objects) → (a n : ℕ) (nss : List (List Note)) → under s buffer a ≡ ended nss n
@@ -334,18 +334,18 @@ module _ (columns : ℕ) where
       seq any
       (λ made u. by (ltb room (chartSize (w .notes + length (made .notes)))) _ _ (λ e. refusing) (λ e. giving (ltb-false room (chartSize (w .notes + length (made .notes))) e)))
 
-  walk-room : (s : Song) (difficulty : Float) (room i : ℕ) (w : Walk) (os : List Object) → chartSize (w .notes) ≤ room
-      → Makes (λ nss. chartSize (w .notes + length (inWalkOrder nss)) ≤ room) (Convert.walk s difficulty columns room i w os)
+  walk-room : (s : SongFacts) (room i : ℕ) (w : Walk) (os : List Object) → chartSize (w .notes) ≤ room
+      → Makes (λ nss. chartSize (w .notes + length (inWalkOrder nss)) ≤ room) (Convert.walk s columns room i w os)
   unfolding Convert.walk Convert.afterObject Convert.walkAfter inWalkOrder
-  walk-room s difficulty room i w [] h = giving (empty-room (w .notes) h)
+  walk-room s room i w [] h = giving (empty-room (w .notes) h)
     where
       empty-room : (n : ℕ) → chartSize n ≤ room → chartSize (n + 0) ≤ room
       empty-room n h = omega arith
-  walk-room s difficulty room i w (o ∷ os) h =
+  walk-room s room i w (o ∷ os) h =
       let d = Convert.meets (o .kind) (o .start) (w .density) in
-      let f = Convert.factsAt s difficulty d o in
+      let f = Convert.factsAt s d o in
       seq (labelled (λ p. i) (at i) (object-room room f w o))
-      (λ made k. seq (walk-room s difficulty room (suc i) (Convert.afterObject f o d made w) os k)
+      (λ made k. seq (walk-room s room (suc i) (Convert.afterObject f o d made w) os k)
       (λ rest l. giving (more (w .notes) (length (made .notes)) (length (inWalkOrder rest)) l (length-append (made .notes) (inWalkOrder rest)))))
     where
       more : (a b c : ℕ) {n : ℕ} → chartSize (a + b + c) ≤ room → n ≡ b + c → chartSize (a + n) ≤ room
@@ -355,7 +355,7 @@ convert-room : (s : Song) (room : ℕ) → Makes (λ nss. chartSize (length (inW
 unfolding convert Convert.beginning
 convert-room s room =
     by (ltb room 8) _ _ (λ e. refusing)
-    (λ e. less (walk-room (columnsOf s) s _ room 0 Convert.beginning (s .objects) (start (ltb-false room 8 e))) (λ nss h. same (length (inWalkOrder nss)) h))
+    (λ e. less (walk-room (columnsOf s) (songFacts s) room 0 Convert.beginning (s .objects) (start (ltb-false room 8 e))) (λ nss h. same (length (inWalkOrder nss)) h))
   where
     start : 8 ≤ room → chartSize 0 ≤ room
     start h = omega arith

@@ -22,14 +22,13 @@ use Rattle.model.specs.declared.Kind.the-variants.{Circle, Slider, Spinner, Hol
 use Rattle.mania.specs.Steps.{double}
 use Rattle.mania.specs.Made.{circle}
 use Rattle.mania.specs.LimitedQueue.{Density}
-use Rattle.mania.specs.PatternGenerator.{conversionDifficulty}
 use Rattle.mania.specs.EndTimeObject
 use Rattle.mania.specs.HitObject
 use Rattle.mania.specs.PathObject
 use Rattle.mania.specs.Object.{byKind, object}
 use Rattle.mania.specs.Convert
 use Rattle.model.specs.Song.{Song}
-use Rattle.mania.specs.Convert.{Walk, at, seed, columnsOf, convert}
+use Rattle.mania.specs.Convert.{Walk, SongFacts, songFacts, at, seed, columnsOf, convert}
 use Rattle.mania.specs.Job.{under}
 use Rattle.mania.specs.Demand.{Each, Lanes, OnDeck}
 use Rattle.mania.proofs.Makes.{Makes, giving, refusing, seq, by, labelled, ran}
@@ -88,16 +87,16 @@ module _ (P : Note → Type 0) (columns : ℕ) (t : 1 ≤ columns) where
       (λ made h. by (ltb room (chartSize (w .notes + length (made .notes)))) _ _ (λ e. refusing) (λ e. giving h))
 
   -- of each object of a walk
-  walk-notes : (s : Song) (difficulty : Float) (room i : ℕ) (w : Walk) (os : List Object)
-      → Each (λ o. (d : Density) → Fine P (Convert.factsAt s difficulty d o) columns o (o .kind)) os
-      → Makes (Each (Sound P)) (Convert.walk s difficulty columns room i w os)
+  walk-notes : (s : SongFacts) (room i : ℕ) (w : Walk) (os : List Object)
+      → Each (λ o. (d : Density) → Fine P (Convert.factsAt s d o) columns o (o .kind)) os
+      → Makes (Each (Sound P)) (Convert.walk s columns room i w os)
   unfolding Convert.walk
-  walk-notes s difficulty room i w [] h = giving tt
-  walk-notes s difficulty room i w (o ∷ os) h =
+  walk-notes s room i w [] h = giving tt
+  walk-notes s room i w (o ∷ os) h =
       let d = Convert.meets (o .kind) (o .start) (w .density) in
-      let f = Convert.factsAt s difficulty d o in
+      let f = Convert.factsAt s d o in
       seq (labelled (λ p. i) (at i) (object-in-notes room f w o (h .0 d)))
-      (λ made k. seq (walk-notes s difficulty room (suc i) (Convert.afterObject f o d made w) os (h .1)) (λ rest l. giving (k, l)))
+      (λ made k. seq (walk-notes s room (suc i) (Convert.afterObject f o d made w) os (h .1)) (λ rest l. giving (k, l)))
 
 -- ---- the columns are 1 to 9, where the key choice is at most 9
 
@@ -149,11 +148,11 @@ few-columns s h = go (eqb (s .keys) 0)
 -- P holds of the notes that can come from each object of a song
 abbrev pub Notes : (Note → Type 0) → Song → Type 0
 Notes P s =
-    Each (λ o. (d : Density) → Fine P (Convert.factsAt s (conversionDifficulty (s .settings) (s .breaks) (s .objects)) d o) (columnsOf s) o (o .kind)) (s .objects)
+    Each (λ o. (d : Density) → Fine P (Convert.factsAt (songFacts s) d o) (columnsOf s) o (o .kind)) (s .objects)
 
 convert-notes : (P : Note → Type 0) (s : Song) (room : ℕ) → Notes P s → Makes (Each (Sound P)) (convert s room)
 unfolding convert
-convert-notes P s room h = by (ltb room 8) _ _ (λ e. refusing) (λ e. walk-notes P (columnsOf s) (some-columns s) s _ room 0 _ (s .objects) h)
+convert-notes P s room h = by (ltb room 8) _ _ (λ e. refusing) (λ e. walk-notes P (columnsOf s) (some-columns s) (songFacts s) room 0 _ (s .objects) h)
 
 -- what an accepted job's notes have in common
 pub ended-notes : (P : Note → Type 0) (s : Song) (buffer : List ℕ) → Notes P s → (a n : ℕ) (nss : List (List Note)) → under s buffer a ≡ ended nss n → Each (Sound P) nss
@@ -182,10 +181,10 @@ module _ (columns : ℕ) where
   kind-deck f o (Spinner duration) = end-deck o _
   kind-deck f o (Hold duration) = end-deck o _
 
-objects-deck : (s : Song) (difficulty : Float) (columns : ℕ) (os : List Object)
-    → Each (λ o. (d : Density) → Fine (λ n. n .column < columns) (Convert.factsAt s difficulty d o) columns o (o .kind)) os
-objects-deck s difficulty columns [] = tt
-objects-deck s difficulty columns (o ∷ os) = (λ d. kind-deck columns _ o (o .kind), objects-deck s difficulty columns os)
+objects-deck : (s : SongFacts) (columns : ℕ) (os : List Object)
+    → Each (λ o. (d : Density) → Fine (λ n. n .column < columns) (Convert.factsAt s d o) columns o (o .kind)) os
+objects-deck s columns [] = tt
+objects-deck s columns (o ∷ os) = (λ d. kind-deck columns _ o (o .kind), objects-deck s columns os)
 
 sound-parts : (P : Note → Type 0) (nss : List (List Note)) → Each (Sound P) nss → Each Lanes nss × Each (Each P) nss
 sound-parts P [] h = (tt, tt)
@@ -193,4 +192,4 @@ sound-parts P (ns ∷ nss) h = let k = sound-parts P nss (h .1) in ((h .0 .0, k 
 
 -- of every song: each note lies on the deck, and no two notes of one object share a lane
 pub deck-and-lanes : (s : Song) (buffer : List ℕ) (a n : ℕ) (nss : List (List Note)) → under s buffer a ≡ ended nss n → Each Lanes nss × Each (Each (OnDeck (columnsOf s))) nss
-deck-and-lanes s buffer a n nss e = sound-parts _ nss (ended-notes (OnDeck (columnsOf s)) s buffer (objects-deck s _ (columnsOf s) (s .objects)) a n nss e)
+deck-and-lanes s buffer a n nss e = sound-parts _ nss (ended-notes (OnDeck (columnsOf s)) s buffer (objects-deck (songFacts s) (columnsOf s) (s .objects)) a n nss e)

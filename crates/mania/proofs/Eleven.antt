@@ -9,7 +9,6 @@ use mathlib.Core.Bool.{Bool, true, false}
 use mathlib.Core.List.{List, [], _∷_, append-nil}
 use lib.Arith.{sub-sub-self}
 use lib.Dec.{ltb}
-use lib.Ieee.{Float}
 use lib.ListN.{length, take, length-append}
 use lib.Pow.{pow-pos}
 use borrow.Author.Tests.{ltb-true, ltb-false, le-ltb}
@@ -31,9 +30,8 @@ use Rattle.mania.specs.LimitedQueue.{Density}
 use Rattle.mania.specs.Object.{object}
 use Rattle.mania.specs.Chart.{inWalkOrder}
 use Rattle.model.specs.Song.{Song}
-use Rattle.mania.specs.Convert.{Walk, AtObject, at, seed, columnsOf, beginning, meets, factsAt, walkAfter, afterObject, walk, convert}
+use Rattle.mania.specs.Convert.{Walk, SongFacts, songFacts, AtObject, at, seed, columnsOf, beginning, meets, factsAt, walkAfter, afterObject, walk, convert}
 use Rattle.mania.specs.Walked.{Stop, stop, spentAt, refusedAt, onWalk}
-use Rattle.mania.specs.PatternGenerator.{conversionDifficulty}
 use Rattle.mania.specs.Refusals.{TooLong}
 use Rattle.mania.specs.Job.{under}
 use Rattle.mania.proofs.Conditions.{object-left, object-not-11}
@@ -65,20 +63,20 @@ unfolding before
 before-refused nss (found mss d) r e h = let z : _≡_ {A = ℕ} 0 1 = ap kind h in absurd (omega arith)
 before-refused nss (refused x d) r e h = h
 
-pub none-made : (s : Song) (difficulty : Float) (columns room i : ℕ) (w : Walk) (d : Draws) → onWalk (walk s difficulty columns room i w []) d ≡ found [] d
+pub none-made : (s : SongFacts) (columns room i : ℕ) (w : Walk) (d : Draws) → onWalk (walk s columns room i w []) d ≡ found [] d
 unfolding walk play
-none-made s difficulty columns room i w d = refl
+none-made s columns room i w d = refl
 
 -- the notes so far, of the objects up to and with the k-th
-pub record Long (s : Song) (difficulty : Float) (columns room i : ℕ) (w : Walk) (os : List Object) (d : Draws) (j : ℕ) (e : Draws) : Type 0 where
+pub record Long (s : SongFacts) (columns room i : ℕ) (w : Walk) (os : List Object) (d : Draws) (j : ℕ) (e : Draws) : Type 0 where
   pub k : ℕ
   pub at : j ≡ i + k
   pub nss : List (List Note)
-  pub made : (wide : ℕ) → chartSize (w .notes + length (inWalkOrder nss)) ≤ wide → onWalk (walk s difficulty columns wide i w (take (suc k) os)) d ≡ found nss e
+  pub made : (wide : ℕ) → chartSize (w .notes + length (inWalkOrder nss)) ≤ wide → onWalk (walk s columns wide i w (take (suc k) os)) d ≡ found nss e
   pub long : room < chartSize (w .notes + length (inWalkOrder nss))
   pub before : List (List Note)
   pub left : Draws
-  pub fit : onWalk (walk s difficulty columns room i w (take k os)) d ≡ found before left
+  pub fit : onWalk (walk s columns room i w (take k os)) d ≡ found before left
 
 length-one : (ns : List Note) → length (inWalkOrder (ns ∷ [])) ≡ length ns
 unfolding inWalkOrder
@@ -92,32 +90,32 @@ length-more ns nss = length-append ns (inWalkOrder nss)
 abbrev pub On : ℕ → Walk → Type 0
 On columns w = (w .prev .mask < 2 ^ columns) × (w .prev .last < columns)
 
-module _ (s : Song) (difficulty : Float) (columns room : ℕ) (some : 1 ≤ columns) (deck : columns ≤ 9) where
+module _ (s : SongFacts) (columns room : ℕ) (some : 1 ≤ columns) (deck : columns ≤ 9) where
   -- one object, with room enough
   wide-made : (i : ℕ) (w : Walk) (o : Object) (os : List Object) (d e : Draws) (made : Made) (wide : ℕ)
-      → on (object (factsAt s difficulty (meets (o .kind) (o .start) (w .density)) o) (w .prev) columns o) d ≡ found made e → chartSize (w .notes + length (made .notes)) ≤ wide
-      → onWalk (walk s difficulty columns wide i w (o ∷ os)) d
-      ≡ before (made .notes ∷ []) (onWalk (walk s difficulty columns wide (suc i)
-      (afterObject (factsAt s difficulty (meets (o .kind) (o .start) (w .density)) o) o (meets (o .kind) (o .start) (w .density)) made w) os) e)
+      → on (object (factsAt s (meets (o .kind) (o .start) (w .density)) o) (w .prev) columns o) d ≡ found made e → chartSize (w .notes + length (made .notes)) ≤ wide
+      → onWalk (walk s columns wide i w (o ∷ os)) d
+      ≡ before (made .notes ∷ []) (onWalk (walk s columns wide (suc i)
+      (afterObject (factsAt s (meets (o .kind) (o .start) (w .density)) o) o (meets (o .kind) (o .start) (w .density)) made w) os) e)
   wide-made i w o os d e made wide h l =
-      sym (before-none (onWalk (walk s difficulty columns wide i w (o ∷ os)) d)) ∙ walk-made s difficulty columns wide i w o os d made e h (le-ltb wide _ l) []
+      sym (before-none (onWalk (walk s columns wide i w (o ∷ os)) d)) ∙ walk-made s columns wide i w o os d made e h (le-ltb wide _ l) []
 
   module _ (o : Object) (os : List Object) (i : ℕ) (w : Walk) (on-deck : On columns w) (d : Draws) (j : ℕ) (e : Draws)
-      (rest : (i : ℕ) (w : Walk) → On columns w → (d : Draws) (j : ℕ) (e : Draws) → onWalk (walk s difficulty columns room i w os) d ≡ refused (stop j 11) e → Long s difficulty columns room i w os d j e)
-      (h : onWalk (walk s difficulty columns room i w (o ∷ os)) d ≡ refused (stop j 11) e) where
+      (rest : (i : ℕ) (w : Walk) → On columns w → (d : Draws) (j : ℕ) (e : Draws) → onWalk (walk s columns room i w os) d ≡ refused (stop j 11) e → Long s columns room i w os d j e)
+      (h : onWalk (walk s columns room i w (o ∷ os)) d ≡ refused (stop j 11) e) where
     abbrev dens : Density
     dens = meets (o .kind) (o .start) (w .density)
 
     abbrev facts : Facts
-    facts = factsAt s difficulty dens o
+    facts = factsAt s dens o
 
     abbrev rule : ObjectRule Made
     rule = object facts (w .prev) columns o
 
-    here : (made : Made) (f : Draws) → on rule d ≡ found made f → ltb room (chartSize (w .notes + length (made .notes))) ≡ true → Long s difficulty columns room i w (o ∷ os) d j e
+    here : (made : Made) (f : Draws) → on rule d ≡ found made f → ltb room (chartSize (w .notes + length (made .notes))) ≡ true → Long s columns room i w (o ∷ os) d j e
     unfolding before
     here made f u l =
-        let t = sym (before-none (onWalk (walk s difficulty columns room i w (o ∷ os)) d)) ∙ walk-full s difficulty columns room i w o os d made f u l [] in
+        let t = sym (before-none (onWalk (walk s columns room i w (o ∷ os)) d)) ∙ walk-full s columns room i w o os d made f u l [] in
         let ends : f ≡ e = ap (left d) (sym t ∙ h) in
         let at : i ≡ j = ap (λ (a : Answer Stop (List (List Note))). stopAt a .object) (sym t ∙ h) in
         record {
@@ -126,18 +124,18 @@ module _ (s : Song) (difficulty : Float) (columns room : ℕ) (some : 1 ≤ colu
           nss = made .notes ∷ [];
           made = λ wide m.
               wide-made i w o [] d f made wide u (subst (λ (n : ℕ). chartSize (w .notes + n) ≤ wide) (length-one (made .notes)) m)
-              ∙ walk-none s difficulty columns wide (suc i) _ (made .notes ∷ []) f ∙ ap (λ (x : Draws). found (made .notes ∷ []) x) ends;
+              ∙ walk-none s columns wide (suc i) _ (made .notes ∷ []) f ∙ ap (λ (x : Draws). found (made .notes ∷ []) x) ends;
           long = subst (λ (n : ℕ). room < chartSize (w .notes + n)) (sym (length-one (made .notes))) (ltb-true room _ l);
           before = [];
           left = d;
-          fit = none-made s difficulty columns room i w d;
+          fit = none-made s columns room i w d;
         }
 
-    later : (made : Made) (f : Draws) → on rule d ≡ found made f → ltb room (chartSize (w .notes + length (made .notes))) ≡ false → Long s difficulty columns room i w (o ∷ os) d j e
+    later : (made : Made) (f : Draws) → on rule d ≡ found made f → ltb room (chartSize (w .notes + length (made .notes))) ≡ false → Long s columns room i w (o ∷ os) d j e
     unfolding before afterObject walkAfter
     later made f u l =
-        let on-from : (os : List Object) → onWalk (walk s difficulty columns room i w (o ∷ os)) d ≡ before (made .notes ∷ []) (onWalk (walk s difficulty columns room (suc i) (afterObject facts o dens made w) os) f)
-        = λ os. sym (before-none (onWalk (walk s difficulty columns room i w (o ∷ os)) d)) ∙ walk-made s difficulty columns room i w o os d made f u l [] in
+        let on-from : (os : List Object) → onWalk (walk s columns room i w (o ∷ os)) d ≡ before (made .notes ∷ []) (onWalk (walk s columns room (suc i) (afterObject facts o dens made w) os) f)
+        = λ os. sym (before-none (onWalk (walk s columns room i w (o ∷ os)) d)) ∙ walk-made s columns room i w o os d made f u l [] in
         let next-on = object-left facts (w .prev) columns o some deck (on-deck .0) (on-deck .1) d made f u in
         let r = rest (suc i) (afterObject facts o dens made w) (next-on .1, next-on .0) f j e (before-refused (made .notes ∷ []) _ (stop j 11) e (sym (on-from os) ∙ h)) in
         let sizes = length-more (made .notes) (r .nss) in
@@ -166,22 +164,22 @@ module _ (s : Song) (difficulty : Float) (columns room : ℕ) (some : 1 ≤ colu
         past : (a b c : ℕ) {n : ℕ} → n ≡ b + c → room < chartSize (a + b + c) → room < chartSize (a + n)
         past a b c e h = omega arith
 
-    found-object : (made : Made) (f : Draws) → on rule d ≡ found made f → (b : Bool) → ltb room (chartSize (w .notes + length (made .notes))) ≡ b → Long s difficulty columns room i w (o ∷ os) d j e
+    found-object : (made : Made) (f : Draws) → on rule d ≡ found made f → (b : Bool) → ltb room (chartSize (w .notes + length (made .notes))) ≡ b → Long s columns room i w (o ∷ os) d j e
     found-object made f u true l = here made f u l
     found-object made f u false l = later made f u l
 
-    by-object : (a : Answer ℕ Made) → on rule d ≡ a → Long s difficulty columns room i w (o ∷ os) d j e
+    by-object : (a : Answer ℕ Made) → on rule d ≡ a → Long s columns room i w (o ∷ os) d j e
     by-object (found made f) u = found-object made f u (ltb room (chartSize (w .notes + length (made .notes)))) refl
     by-object (refused x f) u =
-        let t = sym (before-none (onWalk (walk s difficulty columns room i w (o ∷ os)) d)) ∙ walk-refused s difficulty columns room i w o os d x f u [] in
+        let t = sym (before-none (onWalk (walk s columns room i w (o ∷ os)) d)) ∙ walk-refused s columns room i w o os d x f u [] in
         let is : x ≡ 11 = ap (λ (a : Answer Stop (List (List Note))). stopAt a .number) (sym t ∙ h) in
         absurd (object-not-11 facts (w .prev) columns o some deck (on-deck .0) (on-deck .1) d f (u ∙ ap (λ (y : ℕ). refused y f) is))
 
-  pub eleven : (os : List Object) (i : ℕ) (w : Walk) → On columns w → (d : Draws) (j : ℕ) (e : Draws) → onWalk (walk s difficulty columns room i w os) d ≡ refused (stop j 11) e
-      → Long s difficulty columns room i w os d j e
+  pub eleven : (os : List Object) (i : ℕ) (w : Walk) → On columns w → (d : Draws) (j : ℕ) (e : Draws) → onWalk (walk s columns room i w os) d ≡ refused (stop j 11) e
+      → Long s columns room i w os d j e
   unfolding walk play
   eleven [] i w on-deck d j e h = let z : _≡_ {A = ℕ} 0 1 = ap kind h in absurd (omega arith)
-  eleven (o ∷ os) i w on-deck d j e h = by-object o os i w on-deck d j e (eleven os) h (on (object (factsAt s difficulty (meets (o .kind) (o .start) (w .density)) o) (w .prev) columns o) d) refl
+  eleven (o ∷ os) i w on-deck d j e h = by-object o os i w on-deck d j e (eleven os) h (on (object (factsAt s (meets (o .kind) (o .start) (w .density)) o) (w .prev) columns o) d) refl
 
 -- ---- the job
 
@@ -190,7 +188,7 @@ module _ (s : Song) (deck : columnsOf s ≤ 9) (room a i n : ℕ) where
   st = seeded (seed (s .settings))
 
   abbrev whole : ℕ → List Object → Rule ℕ AtObject (List (List Note))
-  whole wide os = walk s (conversionDifficulty (s .settings) (s .breaks) (s .objects)) (columnsOf s) wide 0 beginning os
+  whole wide os = walk (songFacts s) (columnsOf s) wide 0 beginning os
 
   walked : headerSize ≤ room → run (whole room (s .objects)) (values a st) ≡ Rule.refused (at i tooShort) n → TooLong s room a i n
   unfolding placed taken beginning
@@ -200,7 +198,7 @@ module _ (s : Song) (deck : columnsOf s ≤ 9) (room a i n : ℕ) where
       let d : Draws = tallied a 0 st in
       let e : Draws = tallied (a - n) most (steps n st) in
       let h : onWalk m d ≡ refused (stop i 11) e = play-run spentAt refusedAt m a 0 st ∙ ap (placed spentAt refusedAt a most st) u in
-      let l = eleven s (conversionDifficulty (s .settings) (s .breaks) (s .objects)) (columnsOf s) room (some-columns s) deck (s .objects) 0 beginning (pow-pos (columnsOf s), some-columns s) d i e h in
+      let l = eleven (songFacts s) (columnsOf s) room (some-columns s) deck (s .objects) 0 beginning (pow-pos (columnsOf s), some-columns s) d i e h in
       let small : n ≤ a = subst (λ (o : Outcome ℕ AtObject (List (List Note))). taken o ≤ a) u (done-le m st a (subst Done (sym u) tt)) in
       let k-is : l .k ≡ i = sym (zero-add (l .k)) ∙ sym (l .at) in
       record {

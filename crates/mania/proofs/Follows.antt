@@ -7,7 +7,6 @@ use mathlib.Core.Bool.{Bool, true, false}
 use mathlib.Core.List.{List, [], _∷_}
 use lib.Arith.{sub-sub-self}
 use lib.Dec.{ltb}
-use lib.Ieee.{Float}
 use lib.ListN.{length, take}
 use Rattle.rules.specs.Rule.{give, Outcome, ended, run, taken, Done}
 use Rattle.rules.specs.Ledger.{longest}
@@ -27,8 +26,7 @@ use Rattle.mania.specs.Made.{Made}
 use Rattle.mania.specs.LimitedQueue.{Density}
 use Rattle.mania.specs.Object.{object}
 use Rattle.mania.specs.Chart.{inWalkOrder}
-use Rattle.mania.specs.PatternGenerator.{conversionDifficulty}
-use Rattle.mania.specs.Convert.{Walk, AtObject, columnsOf, beginning, meets, factsAt, walkAfter, afterObject, walk}
+use Rattle.mania.specs.Convert.{Walk, SongFacts, songFacts, AtObject, columnsOf, beginning, meets, factsAt, walkAfter, afterObject, walk}
 use Rattle.mania.specs.Walked.{Stop, spentAt, refusedAt, onWalk}
 use Rattle.mania.specs.Reached.{walkTo, reaches, Follows}
 use Rattle.mania.specs.Laws.Walks.{before, walk-refused, walk-full, walk-made}
@@ -46,36 +44,36 @@ unfolding before
 without ns (found mss d) nss e h = (mss, ap (λ (x : Draws). found mss x) (ap (left d) h), sym (ap notesIn h))
 without ns (refused x d) nss e h = let z : _≡_ {A = ℕ} 1 0 = ap kind h in absurd (omega arith)
 
-module _ (s : Song) (difficulty : Float) (columns room : ℕ) where
+module _ (s : SongFacts) (columns room : ℕ) where
   -- the end of `walkTo`, and how many notes there are then
   abbrev Comes : ℕ → Walk → List Object → Draws → List (List Note) → Draws → Type 0
-  Comes k w os d nss e = (x : Walk) × (on (walkTo s difficulty columns k w os) d ≡ found x e) × (x .notes ≡ w .notes + length (inWalkOrder nss))
+  Comes k w os d nss e = (x : Walk) × (on (walkTo s columns k w os) d ≡ found x e) × (x .notes ≡ w .notes + length (inWalkOrder nss))
 
-  none : (i : ℕ) (w : Walk) (d : Draws) (nss : List (List Note)) (e : Draws) → onWalk (walk s difficulty columns room i w []) d ≡ found nss e
+  none : (i : ℕ) (w : Walk) (d : Draws) (nss : List (List Note)) (e : Draws) → onWalk (walk s columns room i w []) d ≡ found nss e
       → (on (give w) d ≡ found w e) × (w .notes ≡ w .notes + length (inWalkOrder nss))
   unfolding walk play inWalkOrder
   none i w d nss e h = (ap (λ (x : Draws). found w x) (ap (left d) h), sym (add-zero (w .notes)) ∙ ap (λ (x : List (List Note)). w .notes + length (inWalkOrder x)) (ap notesIn h))
 
   module _ (k i : ℕ) (w : Walk) (o : Object) (os : List Object) (d : Draws) (nss : List (List Note)) (e : Draws)
-      (h : onWalk (walk s difficulty columns room i w (o ∷ take k os)) d ≡ found nss e)
-      (rest : (w : Walk) (d : Draws) (nss : List (List Note)) → onWalk (walk s difficulty columns room (suc i) w (take k os)) d ≡ found nss e → Comes k w os d nss e) where
+      (h : onWalk (walk s columns room i w (o ∷ take k os)) d ≡ found nss e)
+      (rest : (w : Walk) (d : Draws) (nss : List (List Note)) → onWalk (walk s columns room (suc i) w (take k os)) d ≡ found nss e → Comes k w os d nss e) where
     abbrev dens : Density
     dens = meets (o .kind) (o .start) (w .density)
 
     abbrev facts : Facts
-    facts = factsAt s difficulty dens o
+    facts = factsAt s dens o
 
     abbrev rule : ObjectRule Made
     rule = object facts (w .prev) columns o
 
     abbrev whole : Answer Stop (List (List Note))
-    whole = onWalk (walk s difficulty columns room i w (o ∷ take k os)) d
+    whole = onWalk (walk s columns room i w (o ∷ take k os)) d
 
     on-from : (made : Made) (f : Draws) → on rule d ≡ found made f → (b : Bool) → ltb room (chartSize (w .notes + length (made .notes))) ≡ b → Comes (suc k) w (o ∷ os) d nss e
     unfolding walkTo afterObject walkAfter
-    on-from made f u true l = let z : _≡_ {A = ℕ} 1 0 = ap kind (sym (sym (before-none whole) ∙ walk-full s difficulty columns room i w o (take k os) d made f u l []) ∙ h) in absurd (omega arith)
+    on-from made f u true l = let z : _≡_ {A = ℕ} 1 0 = ap kind (sym (sym (before-none whole) ∙ walk-full s columns room i w o (take k os) d made f u l []) ∙ h) in absurd (omega arith)
     on-from made f u false l =
-        let t = sym (before-none whole) ∙ walk-made s difficulty columns room i w o (take k os) d made f u l [] in
+        let t = sym (before-none whole) ∙ walk-made s columns room i w o (take k os) d made f u l [] in
         let m = without (made .notes) _ nss e (sym t ∙ h) in
         let r = rest (afterObject facts o dens made w) f (m .0) (m .1) in
         (r .0, found-bind rule _ d made f u ∙ r .1, sum (w .notes) (length (made .notes)) (length (inWalkOrder (m .0))) (r .2) (ap (λ (x : List (List Note)). length (inWalkOrder x)) (m .2) ∙ length-more (made .notes) (m .0)))
@@ -85,25 +83,25 @@ module _ (s : Song) (difficulty : Float) (columns room : ℕ) where
 
     by-object : (a : Answer ℕ Made) → on rule d ≡ a → Comes (suc k) w (o ∷ os) d nss e
     by-object (found made f) u = on-from made f u (ltb room (chartSize (w .notes + length (made .notes)))) refl
-    by-object (refused x f) u = let z : _≡_ {A = ℕ} 1 0 = ap kind (sym (sym (before-none whole) ∙ walk-refused s difficulty columns room i w o (take k os) d x f u []) ∙ h) in absurd (omega arith)
+    by-object (refused x f) u = let z : _≡_ {A = ℕ} 1 0 = ap kind (sym (sym (before-none whole) ∙ walk-refused s columns room i w o (take k os) d x f u []) ∙ h) in absurd (omega arith)
 
-  follow : (k i : ℕ) (w : Walk) (os : List Object) (d : Draws) (nss : List (List Note)) (e : Draws) → onWalk (walk s difficulty columns room i w (take k os)) d ≡ found nss e → Comes k w os d nss e
+  follow : (k i : ℕ) (w : Walk) (os : List Object) (d : Draws) (nss : List (List Note)) (e : Draws) → onWalk (walk s columns room i w (take k os)) d ≡ found nss e → Comes k w os d nss e
   unfolding walkTo
   follow zero i w os d nss e h = let n = none i w d nss e h in (w, n .0, n .1)
   follow (suc k) i w [] d nss e h = let n = none i w d nss e h in (w, n .0, n .1)
-  follow (suc k) i w (o ∷ os) d nss e h = by-object k i w o os d nss e h (λ w d nss. follow k (suc i) w os d nss e) (on (object (factsAt s difficulty (meets (o .kind) (o .start) (w .density)) o) (w .prev) columns o) d) refl
+  follow (suc k) i w (o ∷ os) d nss e h = by-object k i w o os d nss e h (λ w d nss. follow k (suc i) w os d nss e) (on (object (factsAt s (meets (o .kind) (o .start) (w .density)) o) (w .prev) columns o) d) refl
 
 pub follows : (s : Song) (room k a n : ℕ) (r : Random) (nss : List (List Note))
-    → run (walk s (conversionDifficulty (s .settings) (s .breaks) (s .objects)) (columnsOf s) room 0 beginning (take k (s .objects))) (values a r) ≡ ended nss n
+    → run (walk (songFacts s) (columnsOf s) room 0 beginning (take k (s .objects))) (values a r) ≡ ended nss n
     → Follows s k a n r (length (inWalkOrder nss))
 unfolding placed taken reaches beginning
 follows s room k a n r nss u =
-    let m = walk s (conversionDifficulty (s .settings) (s .breaks) (s .objects)) (columnsOf s) room 0 beginning (take k (s .objects)) in
+    let m = walk (songFacts s) (columnsOf s) room 0 beginning (take k (s .objects)) in
     let most = max 0 (longest m (values a r)) in
     let d : Draws = tallied a 0 r in
     let e : Draws = tallied (a - n) most (steps n r) in
     let h : onWalk m d ≡ found nss e = play-run spentAt refusedAt m a 0 r ∙ ap (placed spentAt refusedAt a most r) u in
-    let c = follow s (conversionDifficulty (s .settings) (s .breaks) (s .objects)) (columnsOf s) room k 0 beginning (s .objects) d nss e h in
+    let c = follow (songFacts s) (columnsOf s) room k 0 beginning (s .objects) d nss e h in
     let small : n ≤ a = subst (λ (o : Outcome ℕ AtObject (List (List Note))). taken o ≤ a) u (done-le m r a (subst Done (sym u) tt)) in
     record {
       to = c .0;

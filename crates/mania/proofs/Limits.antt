@@ -32,12 +32,12 @@ use Rattle.mania.specs.Steps.{double}
 use Rattle.mania.specs.PatternType.{contains, reverse, forceStack, forceNotStack, stair, reverseStair, keepSingle, mirror}
 use Rattle.mania.specs.Pattern.{Pattern, free, anyFree, empty, add}
 use Rattle.model.specs.Limits.{searchLimit}
-use Rattle.mania.specs.PatternGenerator.{randomStart, getRandomNoteCount, getRandomColumn, nextColumn, stepTo, drawTo, searchOn, columnSearch, findAvailableColumn, conversionDifficulty}
+use Rattle.mania.specs.PatternGenerator.{randomStart, getRandomNoteCount, getRandomColumn, nextColumn, stepTo, drawTo, searchOn, columnSearch, findAvailableColumn}
 use Rattle.mania.specs.HitObject as HitObject
 use Rattle.mania.specs.PathObject as PathObject
 use Rattle.mania.specs.EndTimeObject as EndTimeObject
 use Rattle.mania.specs.Object.{byKind, object}
-use Rattle.mania.specs.Convert.{Walk, AtObject, at, seed, columnsOf, beginning, meets, factsAt, afterObject, objectIn, walk, convert}
+use Rattle.mania.specs.Convert.{Walk, SongFacts, songFacts, AtObject, at, seed, columnsOf, beginning, meets, factsAt, afterObject, objectIn, walk, convert}
 use Rattle.mania.specs.Single.{withRoom}
 use Rattle.mania.specs.Job.{under, ledgerUnder}
 use Rattle.chart.specs.Layout.{chartSize, noteSize}
@@ -306,25 +306,22 @@ in-walk columns room f w o = seq (objects f (w .prev) columns o) (λ m. by (ltb 
 abbrev LongAt : AtObject → Type 0
 LongAt r = r .refusal ≡ longSearch
 
-walks : (s : Song) (difficulty : Float) (columns room i : ℕ) (w : Walk) (os : List Object) → Limited searchLimit LongAt (walk s difficulty columns room i w os)
+walks : (s : SongFacts) (columns room i : ℕ) (w : Walk) (os : List Object) → Limited searchLimit LongAt (walk s columns room i w os)
 unfolding walk
-walks s difficulty columns room i w [] = tt
-walks s difficulty columns room i w (o ∷ os) =
+walks s columns room i w [] = tt
+walks s columns room i w (o ∷ os) =
     let d = meets (o .kind) (o .start) (w .density) in
-    let f = factsAt s difficulty d o in
+    let f = factsAt s d o in
     bind-limited searchLimit LongAt _ _ (label-limited searchLimit LongAt (λ p. i) (at i) (objectIn columns room f w o) (in-walk columns room f w o .limits))
-    (λ made. bind-limited searchLimit LongAt (walk s difficulty columns room (suc i) (afterObject f o d made w) os) _ (walks s difficulty columns room (suc i) (afterObject f o d made w) os) (λ rest. tt))
+    (λ made. bind-limited searchLimit LongAt (walk s columns room (suc i) (afterObject f o d made w) os) _ (walks s columns room (suc i) (afterObject f o d made w) os) (λ rest. tt))
 
 convert-limited : (s : Song) (room : ℕ) → Limited searchLimit LongAt (convert s room)
 unfolding convert
 convert-limited s room = go (ltb room 8)
   where
-    difficulty : Float
-    difficulty = conversionDifficulty (s .settings) (s .breaks) (s .objects)
-
-    go : (b : Bool) → Limited searchLimit LongAt (if b then refuse (at 0 tooShort) else walk s difficulty (columnsOf s) room 0 beginning (s .objects))
+    go : (b : Bool) → Limited searchLimit LongAt (if b then refuse (at 0 tooShort) else walk (songFacts s) (columnsOf s) room 0 beginning (s .objects))
     go true = λ (e : tooShort ≡ longSearch). let z = ap isLong e in omega arith
-    go false = walks s difficulty (columnsOf s) room 0 beginning (s .objects)
+    go false = walks (songFacts s) (columnsOf s) room 0 beginning (s .objects)
 
 -- ---- what follows for a song
 

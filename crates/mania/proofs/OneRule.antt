@@ -6,7 +6,6 @@ use mathlib.Core.Bool.{Bool, true, false}
 use mathlib.Core.List.{List, [], _∷_}
 use lib.Arith.{sub-sub-self}
 use lib.Dec.{ltb}
-use lib.Ieee.{Float}
 use lib.ListN.{length}
 use borrow.Author.Tests.{ltb-true, ltb-false, lt-ltb, le-ltb}
 use Rattle.rules.specs.Rule.{Outcome, ended, spent, run, taken, Done}
@@ -19,13 +18,12 @@ use Rattle.random.specs.declared.Random.{Random}
 use Rattle.random.specs.declared.Draws.{Draws}
 use Rattle.random.specs.Laws.Play.{placed, play-run}
 use Rattle.random.specs.Laws.Allowance.{done-le}
-use Rattle.model.specs.Song.{Song}
 use Rattle.model.specs.declared.Object.{Object}
 use Rattle.mania.specs.declared.Note.{Note}
 use Rattle.mania.specs.declared.Stair.{Stair}
 use Rattle.mania.specs.Made.{Made}
 use Rattle.mania.specs.Chart.{body, written}
-use Rattle.mania.specs.Convert.{Walk, walkAfter, afterObject, walk}
+use Rattle.mania.specs.Convert.{Walk, SongFacts, walkAfter, afterObject, walk}
 use Rattle.mania.specs.Walked.{Stop, stop, onWalk}
 use Rattle.mania.specs.Single.{made, refusal, Single, entryRefusal, refusing}
 use Rattle.mania.specs.Single as Single
@@ -51,9 +49,9 @@ same-room notes more left = go (ltb left (noteSize * more)) refl
     go true e = let l = ltb-true left (noteSize * more) e in sym (lt-ltb (chartSize notes + left) (chartSize (notes + more)) (omega arith))
     go false e = let l = ltb-false left (noteSize * more) e in sym (le-ltb (chartSize notes + left) (chartSize (notes + more)) (omega arith))
 
-module _ (s : Song) (difficulty : Float) (columns i : ℕ) (w : Walk) (o : Object) (os : List Object) (d : Draws) (buffer : List ℕ) where
+module _ (s : SongFacts) (columns i : ℕ) (w : Walk) (o : Object) (os : List Object) (d : Draws) (buffer : List ℕ) where
   abbrev own : ObjectRule Made
-  own = rule s difficulty columns i w o os d buffer
+  own = rule s columns i w o os d buffer
 
   abbrev a : ℕ
   a = d .tally .left
@@ -66,13 +64,13 @@ module _ (s : Song) (difficulty : Float) (columns i : ℕ) (w : Walk) (o : Objec
   rule-is g x u = play-run (λ p. spentNumber) number own a g (d .random) ∙ ap (played g) u
 
   abbrev Entry : Single
-  Entry = entry s difficulty columns i w o os d buffer
+  Entry = entry s columns i w o os d buffer
 
   abbrev Here : Answer Stop (List (List Note))
-  Here = here s difficulty columns i w o os d buffer
+  Here = here s columns i w o os d buffer
 
   abbrev Room : ℕ
-  Room = room s difficulty columns i w o os d buffer
+  Room = room s columns i w o os d buffer
 
   -- the longest search so far
   abbrev most : ℕ
@@ -81,14 +79,14 @@ module _ (s : Song) (difficulty : Float) (columns i : ℕ) (w : Walk) (o : Objec
   -- what both come to
   data Both : Type 0 where
     both-made : (m : Made) (n : ℕ) → Entry ≡ record { answer = made (length (m .notes)) (m .mask) (m .last) (m .stair) (steps n (d .random)) n; notes = written (body (m .notes)) buffer }
-        → Here ≡ before (m .notes ∷ []) (onWalk (walk s difficulty columns Room (suc i) (afterObject (facts s difficulty columns i w o os d buffer) o (met s difficulty columns i w o os d buffer) m w) os) (tallied (a - n) most (steps n (d .random)))) → Both
+        → Here ≡ before (m .notes ∷ []) (onWalk (walk s columns Room (suc i) (afterObject (facts s columns i w o os d buffer) o (met s columns i w o os d buffer) m w) os) (tallied (a - n) most (steps n (d .random)))) → Both
     both-refused : (k : ℕ) (e : Draws) → Entry ≡ refusing k (d .random) buffer → Here ≡ refused (stop i k) e → Both
 
-  module _ (passes : entryRefusal (facts s difficulty columns i w o os d buffer) (w .prev) columns o ≡ 0) where
+  module _ (passes : entryRefusal (facts s columns i w o os d buffer) (w .prev) columns o ≡ 0) where
     refused-both : (k : ℕ) (e f : Draws) → on own (tallied a 0 (d .random)) ≡ refused k e → on own d ≡ refused k f → Both
     refused-both k e f u v =
-        both-refused k f (single-refused (facts s difficulty columns i w o os d buffer) (w .prev) columns o (d .random) a buffer passes k e u)
-        (sym (before-none Here) ∙ walk-refused s difficulty columns Room i w o os d k f v [])
+        both-refused k f (single-refused (facts s columns i w o os d buffer) (w .prev) columns o (d .random) a buffer passes k e u)
+        (sym (before-none Here) ∙ walk-refused s columns Room i w o os d k f v [])
 
     both : (x : Outcome (Unit {0}) Refusal Made) → run own (values a (d .random)) ≡ x → Both
     unfolding placed taken
@@ -101,19 +99,19 @@ module _ (s : Song) (difficulty : Float) (columns i : ℕ) (w : Walk) (o : Objec
 
         go : (b : Bool) → ltb (length buffer) (noteSize * length (m .notes)) ≡ b → Both
         go true l =
-            both-refused 11 _ (single-full (facts s difficulty columns i w o os d buffer) (w .prev) columns o (d .random) a buffer passes m _ (rule-is 0 (ended m n) u) l)
-            (sym (before-none Here) ∙ walk-full s difficulty columns Room i w o os d m _ (rule-is (d .tally .longest) (ended m n) u) (sym (same-room (w .notes) (length (m .notes)) (length buffer)) ∙ l) [])
+            both-refused 11 _ (single-full (facts s columns i w o os d buffer) (w .prev) columns o (d .random) a buffer passes m _ (rule-is 0 (ended m n) u) l)
+            (sym (before-none Here) ∙ walk-full s columns Room i w o os d m _ (rule-is (d .tally .longest) (ended m n) u) (sym (same-room (w .notes) (length (m .notes)) (length buffer)) ∙ l) [])
         go false l =
             both-made m n
-            (single-made (facts s difficulty columns i w o os d buffer) (w .prev) columns o (d .random) a buffer passes m _ (rule-is 0 (ended m n) u) l
+            (single-made (facts s columns i w o os d buffer) (w .prev) columns o (d .random) a buffer passes m _ (rule-is 0 (ended m n) u) l
             ∙ ap (λ (k : ℕ). record { answer = made (length (m .notes)) (m .mask) (m .last) (m .stair) (steps n (d .random)) k; notes = written (body (m .notes)) buffer }) (sub-sub-self small))
-            (sym (before-none Here) ∙ walk-made s difficulty columns Room i w o os d m _ (rule-is (d .tally .longest) (ended m n) u) (sym (same-room (w .notes) (length (m .notes)) (length buffer)) ∙ l) [])
+            (sym (before-none Here) ∙ walk-made s columns Room i w o os d m _ (rule-is (d .tally .longest) (ended m n) u) (sym (same-room (w .notes) (length (m .notes)) (length buffer)) ∙ l) [])
 
   abbrev madeOf : Single.Answer → ℕ × ℕ × ℕ × Stair × Random × ℕ
   madeOf (made k mask last stair r n) = (k, mask, last, stair, r, n)
   madeOf (refusal k r) = (0, 0, 0, w .prev .stair, r, 0)
 
-  going : Both → (k mask last : ℕ) (stair : Stair) (r : Random) (n : ℕ) → Entry .answer ≡ made k mask last stair r n → GoesOn s difficulty columns i w o os d buffer k mask last stair r n
+  going : Both → (k mask last : ℕ) (stair : Stair) (r : Random) (n : ℕ) → Entry .answer ≡ made k mask last stair r n → GoesOn s columns i w o os d buffer k mask last stair r n
   unfolding refusing afterObject
   going (both-refused q e u h) k mask last stair r n x = let z : _≡_ {A = ℕ} 0 1 = ap isMade (sym (ap (λ (j : Single). j .answer) u) ∙ x) in absurd (omega arith)
   going (both-made m l u h) k mask last stair r n x =
@@ -122,7 +120,7 @@ module _ (s : Song) (difficulty : Float) (columns i : ℕ) (w : Walk) (o : Objec
         notes = m .notes;
         count = sym (ap (λ (y : ℕ × ℕ × ℕ × Stair × Random × ℕ). y .0) p);
         bytes = ap (λ (j : Single). j .notes) u;
-        walks = h ∙ ap (λ (y : ℕ × ℕ × ℕ × Stair × Random × ℕ). before (m .notes ∷ []) (onWalk (walk s difficulty columns Room (suc i) (walkAfter (facts s difficulty columns i w o os d buffer) o (met s difficulty columns i w o os d buffer) (y .1) (y .2) (y .3) (y .0) w) os) (tallied (a - y .5) most (y .4)))) p;
+        walks = h ∙ ap (λ (y : ℕ × ℕ × ℕ × Stair × Random × ℕ). before (m .notes ∷ []) (onWalk (walk s columns Room (suc i) (walkAfter (facts s columns i w o os d buffer) o (met s columns i w o os d buffer) (y .1) (y .2) (y .3) (y .0) w) os) (tallied (a - y .5) most (y .4)))) p;
       }
 
   stopping : Both → (k : ℕ) (r : Random) → Entry .answer ≡ refusal k r → (e : Draws) × (Here ≡ refused (stop i k) e)
@@ -130,7 +128,7 @@ module _ (s : Song) (difficulty : Float) (columns i : ℕ) (w : Walk) (o : Objec
   stopping (both-made m l u h) k r x = let z : _≡_ {A = ℕ} 1 0 = ap isMade (sym (ap (λ (j : Single). j .answer) u) ∙ x) in absurd (omega arith)
   stopping (both-refused q e u h) k r x = (e, h ∙ ap (λ (y : ℕ). refused (stop i y) e) (ap numberOf (sym (ap (λ (j : Single). j .answer) u) ∙ x)))
 
-  pub one-rule : OneRule s difficulty columns i w o os d buffer
+  pub one-rule : OneRule s columns i w o os d buffer
   one-rule =
       record {
         goes-on = λ passes. going (both passes (run own (values a (d .random))) refl);

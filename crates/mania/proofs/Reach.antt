@@ -8,7 +8,6 @@ use mathlib.Core.Bool.{Bool, true, false, not, _&&_}
 use mathlib.Core.List.{List, [], _∷_}
 use lib.Dec.{eqb, leb, ltb, lit≤}
 use lib.Count.{ones, onesIn}
-use lib.Ieee.{Float}
 use lib.ListN.{length}
 use lib.Pow.{pow-pos}
 use borrow.Author.Tests.{eqb-true, eqb-false, eq-eqb, le-leb, lt-ltb}
@@ -31,7 +30,7 @@ use Rattle.mania.specs.HitObject
 use Rattle.mania.specs.PathObject
 use Rattle.mania.specs.EndTimeObject
 use Rattle.mania.specs.Object.{byKind, object}
-use Rattle.mania.specs.Convert.{Walk, AtObject, at, beginning, meets, factsAt, walkAfter, afterObject, objectIn, walk, columnsOf, convert}
+use Rattle.mania.specs.Convert.{Walk, SongFacts, songFacts, AtObject, at, beginning, meets, factsAt, walkAfter, afterObject, objectIn, walk, columnsOf, convert}
 use Rattle.mania.specs.Single.{patternFits, entryRefusal}
 use Rattle.mania.specs.Refusals.{Late, LateAt, Blocked, Below, InWalk}
 use Rattle.mania.specs.Reached.{most, ReachedOf8, Reached, walkTo, reaches, Valid, Reasons}
@@ -183,15 +182,15 @@ begins columns some deck =
 
 -- ---- a walk
 
--- a slider's end depends on the song alone
-pub late-same : (s : Song) (x y : Float) (d e : Density) (o : Object) (k : Kind) → Late (factsAt s x d o) o k → Late (factsAt s y e o) o k
+-- a slider's end does not depend on the density
+pub late-same : (s : SongFacts) (d e : Density) (o : Object) (k : Kind) → Late (factsAt s d o) o k → Late (factsAt s e o) o k
 unfolding Late factsAt PathObject.endTime
-late-same s x y d e o Circle h = h
-late-same s x y d e o (Slider repeats distance node) h = h
-late-same s x y d e o (Spinner duration) h = h
-late-same s x y d e o (Hold duration) h = h
+late-same s d e o Circle h = h
+late-same s d e o (Slider repeats distance node) h = h
+late-same s d e o (Spinner duration) h = h
+late-same s d e o (Hold duration) h = h
 
-module _ (s : Song) (i : ℕ) (o : Object) (os : List Object) where
+module _ (s : SongFacts) (i : ℕ) (o : Object) (os : List Object) where
   later : (r : AtObject) → InWalk s (suc i) os r → InWalk s i (o ∷ os) r
   unfolding LateAt
   later r h = record { late = λ e. let k = h .late e in (suc (k .0), k .1 ∙ next (k .0), k .2); found = h .found; on = h .on }
@@ -202,54 +201,54 @@ module _ (s : Song) (i : ℕ) (o : Object) (os : List Object) where
   short-here : (j : ℕ) → InWalk s i (o ∷ os) (at j tooShort)
   short-here j = record { late = λ e. differ e (λ z. omega arith); found = λ e. differ e (λ z. omega arith); on = λ e. differ e (λ z. omega arith) }
 
-  module _ (difficulty : Float) (v : PrevValues) (d : Density) (columns : ℕ) (before : Reached columns v) where
-    here : (r : Refusal) → Condition (factsAt s difficulty d o) v columns o (o .kind) r → InWalk s i (o ∷ os) (at i r)
+  module _ (v : PrevValues) (d : Density) (columns : ℕ) (before : Reached columns v) where
+    here : (r : Refusal) → Condition (factsAt s d o) v columns o (o .kind) r → InWalk s i (o ∷ os) (at i r)
     unfolding LateAt
     here lateEnd h =
         record {
-          late = λ e. (0, sym (add-zero i), late-same s difficulty _ d _ o (o .kind) h);
+          late = λ e. (0, sym (add-zero i), late-same s d _ o (o .kind) h);
           found = λ e. differ e (λ z. omega arith);
           on = λ e. differ e (λ z. omega arith);
         }
-    here noColumn h = absurd (not-blocked (factsAt s difficulty d o) v columns o before (o .kind) h)
-    here offDeck h = absurd (not-below (factsAt s difficulty d o) v columns o before (o .kind) h)
+    here noColumn h = absurd (not-blocked (factsAt s d o) v columns o before (o .kind) h)
+    here offDeck h = absurd (not-below (factsAt s d o) v columns o before (o .kind) h)
     here tooShort h = absurd h
     here longSearch h = record { late = λ e. differ e (λ z. omega arith); found = λ e. differ e (λ z. omega arith); on = λ e. differ e (λ z. omega arith) }
 
-    object-here : Meets (λ r. InWalk s i (o ∷ os) (at i r)) (Leaves columns) (object (factsAt s difficulty d o) v columns o)
+    object-here : Meets (λ r. InWalk s i (o ∷ os) (at i r)) (Leaves columns) (object (factsAt s d o) v columns o)
     object-here =
-        let f = factsAt s difficulty d o in
+        let f = factsAt s d o in
         let fit = pattern-fits v columns (before .fits) in
         both (less (object-ends f v columns o (fit .some) (fit .deck) (fit .mask) (fit .last)) (λ x h. h) here) (object-leaves f v columns o before)
 
-module _ (s : Song) (difficulty : Float) (columns room : ℕ) (some : 1 ≤ columns) (deck : columns ≤ 9) where
-  walk-ends : (os : List Object) (i : ℕ) (w : Walk) → Reached columns (w .prev) → Meets (InWalk s i os) (λ nss. Unit {0}) (walk s difficulty columns room i w os)
+module _ (s : SongFacts) (columns room : ℕ) (some : 1 ≤ columns) (deck : columns ≤ 9) where
+  walk-ends : (os : List Object) (i : ℕ) (w : Walk) → Reached columns (w .prev) → Meets (InWalk s i os) (λ nss. Unit {0}) (walk s columns room i w os)
   unfolding walk objectIn
   walk-ends [] i w before = giving tt
   walk-ends (o ∷ os) i w before =
       let d = meets (o .kind) (o .start) (w .density) in
-      let f = factsAt s difficulty d o in
+      let f = factsAt s d o in
       seq {P = Leaves columns}
       (labelled (InWalk s i (o ∷ os)) (λ p. i) (at i)
-      (seq (object-here s i o os difficulty (w .prev) d columns before)
+      (seq (object-here s i o os (w .prev) d columns before)
       (λ made h. by (ltb room (chartSize (w .notes + length (made .notes)))) _ _ (λ e. refusing (short-here s i o os i)) (λ e. giving h))))
       (λ made h. seq (less (walk-ends os (suc i) (afterObject f o d made w) (next-reached columns f o d made w some deck h)) (λ x u. u) (later s i o os)) (λ rest u. giving tt))
 
-  walk-reached : (k : ℕ) (w : Walk) (os : List Object) → Reached columns (w .prev) → Makes (λ x. Reached columns (x .prev)) (walkTo s difficulty columns k w os)
+  walk-reached : (k : ℕ) (w : Walk) (os : List Object) → Reached columns (w .prev) → Makes (λ x. Reached columns (x .prev)) (walkTo s columns k w os)
   unfolding walkTo
   walk-reached zero w os before = Makes.giving before
   walk-reached (suc k) w [] before = Makes.giving before
   walk-reached (suc k) w (o ∷ os) before =
       let d = meets (o .kind) (o .start) (w .density) in
-      let f = factsAt s difficulty d o in
+      let f = factsAt s d o in
       Makes.seq (object-leaves f (w .prev) columns o before) (λ made h. walk-reached k (afterObject f o d made w) os (next-reached columns f o d made w some deck h))
 
-pub convert-ends : (s : Song) (room : ℕ) → columnsOf s ≤ 9 → Meets (InWalk s 0 (s .objects)) (λ nss. Unit {0}) (convert s room)
+pub convert-ends : (s : Song) (room : ℕ) → columnsOf s ≤ 9 → Meets (InWalk (songFacts s) 0 (s .objects)) (λ nss. Unit {0}) (convert s room)
 unfolding convert
 convert-ends s room deck =
     by (ltb room 8) _ _
     (λ e. refusing (record { late = λ e. differ e (λ z. omega arith); found = λ e. differ e (λ z. omega arith); on = λ e. differ e (λ z. omega arith) }))
-    (λ e. walk-ends s _ (columnsOf s) room (some-columns s) deck (s .objects) 0 beginning (begins (columnsOf s) (some-columns s) deck))
+    (λ e. walk-ends (songFacts s) (columnsOf s) room (some-columns s) deck (s .objects) 0 beginning (begins (columnsOf s) (some-columns s) deck))
 
 -- ---- the claims
 
@@ -261,7 +260,7 @@ kept f o d w columns h a n r made e =
 
 reaches-reached : (s : Song) → columnsOf s ≤ 9 → (k : ℕ) → Makes (λ w. Reached (columnsOf s) (w .prev)) (reaches s k)
 unfolding reaches
-reaches-reached s deck k = walk-reached s _ (columnsOf s) 0 (some-columns s) deck k beginning (s .objects) (begins (columnsOf s) (some-columns s) deck)
+reaches-reached s deck k = walk-reached (songFacts s) (columnsOf s) 0 (some-columns s) deck k beginning (s .objects) (begins (columnsOf s) (some-columns s) deck)
 
 reached-valid : (f : Facts) (v : PrevValues) (columns : ℕ) (o : Object) → Reached columns v → Valid f v columns o
 reached-valid f v columns o h =

@@ -7,7 +7,6 @@ use mathlib.Core.Bool.{Bool, true, false}
 use mathlib.Core.List.{List, [], _∷_}
 use lib.Arith.{sub-sub-self}
 use lib.Dec.{ltb}
-use lib.Ieee.{Float}
 use lib.ListN.{length, take}
 use borrow.Author.Tests.{lt-ltb, le-ltb, ltb-false}
 use Rattle.rules.specs.Rule.{Rule, Outcome, ended, run, taken, Done}
@@ -28,8 +27,7 @@ use Rattle.mania.specs.Made.{Made}
 use Rattle.mania.specs.LimitedQueue.{Density}
 use Rattle.mania.specs.Object.{object}
 use Rattle.mania.specs.Chart.{inWalkOrder}
-use Rattle.mania.specs.PatternGenerator.{conversionDifficulty}
-use Rattle.mania.specs.Convert.{Walk, AtObject, seed, columnsOf, beginning, meets, factsAt, walkAfter, afterObject, walk, convert}
+use Rattle.mania.specs.Convert.{Walk, SongFacts, AtObject, seed, columnsOf, songFacts, beginning, meets, factsAt, walkAfter, afterObject, walk, convert}
 use Rattle.mania.specs.Walked.{Stop, stop, spentAt, refusedAt, onWalk}
 use Rattle.mania.specs.Refusals.{LateAt, TooLate, TooLong}
 use Rattle.mania.specs.Job.{refusing, job}
@@ -43,98 +41,98 @@ use Rattle.chart.specs.Layout.{headerSize, chartSize}
 -- ---- the walk
 
 -- a walk over no objects
-none-left : (s : Song) (difficulty : Float) (columns room i : ℕ) (w : Walk) (d : Draws) (nss : List (List Note)) (e : Draws)
-    → onWalk (walk s difficulty columns room i w []) d ≡ found nss e → (nss ≡ []) × (d ≡ e)
-none-left s difficulty columns room i w d nss e h =
-    let t = sym (none-made s difficulty columns room i w d) ∙ h in (sym (ap notesIn t), ap (left d) t)
+none-left : (s : SongFacts) (columns room i : ℕ) (w : Walk) (d : Draws) (nss : List (List Note)) (e : Draws)
+    → onWalk (walk s columns room i w []) d ≡ found nss e → (nss ≡ []) × (d ≡ e)
+none-left s columns room i w d nss e h =
+    let t = sym (none-made s columns room i w d) ∙ h in (sym (ap notesIn t), ap (left d) t)
 
-module _ (s : Song) (difficulty : Float) (columns : ℕ) (i : ℕ) (w : Walk) (o : Object) (d : Draws) where
+module _ (s : SongFacts) (columns : ℕ) (i : ℕ) (w : Walk) (o : Object) (d : Draws) where
   abbrev dens : Density
   dens = meets (o .kind) (o .start) (w .density)
 
   abbrev facts : Facts
-  facts = factsAt s difficulty dens o
+  facts = factsAt s dens o
 
   abbrev rule : ObjectRule Made
   rule = object facts (w .prev) columns o
 
   -- a walk that ended went on after its first object
-  refused-not : (room : ℕ) (os : List Object) (nss : List (List Note)) (e : Draws) → onWalk (walk s difficulty columns room i w (o ∷ os)) d ≡ found nss e
+  refused-not : (room : ℕ) (os : List Object) (nss : List (List Note)) (e : Draws) → onWalk (walk s columns room i w (o ∷ os)) d ≡ found nss e
       → (x : ℕ) (f : Draws) → on rule d ≡ refused x f → ⊥
   refused-not room os nss e h x f u =
-      let whole = onWalk (walk s difficulty columns room i w (o ∷ os)) d in
-      let z : _≡_ {A = ℕ} 1 0 = ap kind (sym (sym (before-none whole) ∙ walk-refused s difficulty columns room i w o os d x f u []) ∙ h) in
+      let whole = onWalk (walk s columns room i w (o ∷ os)) d in
+      let z : _≡_ {A = ℕ} 1 0 = ap kind (sym (sym (before-none whole) ∙ walk-refused s columns room i w o os d x f u []) ∙ h) in
       omega arith
 
   record GoesOn (room : ℕ) (os : List Object) (made : Made) (f : Draws) (nss : List (List Note)) (e : Draws) : Type 0 where
     fits : ltb room (chartSize (w .notes + length (made .notes))) ≡ false
     rest : List (List Note)
-    later : onWalk (walk s difficulty columns room (suc i) (afterObject facts o dens made w) os) f ≡ found rest e
+    later : onWalk (walk s columns room (suc i) (afterObject facts o dens made w) os) f ≡ found rest e
     all : nss ≡ made .notes ∷ rest
 
   goes-on : (room : ℕ) (os : List Object) (made : Made) (f : Draws) → on rule d ≡ found made f → (nss : List (List Note)) (e : Draws)
-      → onWalk (walk s difficulty columns room i w (o ∷ os)) d ≡ found nss e → GoesOn room os made f nss e
+      → onWalk (walk s columns room i w (o ∷ os)) d ≡ found nss e → GoesOn room os made f nss e
   goes-on room os made f u nss e h = go (ltb room (chartSize (w .notes + length (made .notes)))) refl
     where
       go : (b : Bool) → ltb room (chartSize (w .notes + length (made .notes))) ≡ b → GoesOn room os made f nss e
       go true l =
-          let whole = onWalk (walk s difficulty columns room i w (o ∷ os)) d in
-          let z : _≡_ {A = ℕ} 1 0 = ap kind (sym (sym (before-none whole) ∙ walk-full s difficulty columns room i w o os d made f u l []) ∙ h) in
+          let whole = onWalk (walk s columns room i w (o ∷ os)) d in
+          let z : _≡_ {A = ℕ} 1 0 = ap kind (sym (sym (before-none whole) ∙ walk-full s columns room i w o os d made f u l []) ∙ h) in
           absurd (omega arith)
       go false l =
-          let whole = onWalk (walk s difficulty columns room i w (o ∷ os)) d in
-          let t = sym (before-none whole) ∙ walk-made s difficulty columns room i w o os d made f u l [] in
+          let whole = onWalk (walk s columns room i w (o ∷ os)) d in
+          let t = sym (before-none whole) ∙ walk-made s columns room i w o os d made f u l [] in
           let m = without (made .notes) _ nss e (sym t ∙ h) in
           record { fits = l; rest = m .0; later = m .1; all = m .2 }
 
   -- a refusal after it is the walk's
   passes-on : (room : ℕ) (os : List Object) (made : Made) (f : Draws) → on rule d ≡ found made f → ltb room (chartSize (w .notes + length (made .notes))) ≡ false
-      → (x : Stop) (e : Draws) → onWalk (walk s difficulty columns room (suc i) (afterObject facts o dens made w) os) f ≡ refused x e
-      → onWalk (walk s difficulty columns room i w (o ∷ os)) d ≡ refused x e
+      → (x : Stop) (e : Draws) → onWalk (walk s columns room (suc i) (afterObject facts o dens made w) os) f ≡ refused x e
+      → onWalk (walk s columns room i w (o ∷ os)) d ≡ refused x e
   unfolding before
   passes-on room os made f u l x e h =
-      sym (before-none (onWalk (walk s difficulty columns room i w (o ∷ os)) d)) ∙ walk-made s difficulty columns room i w o os d made f u l [] ∙ ap (before (made .notes ∷ [])) h
+      sym (before-none (onWalk (walk s columns room i w (o ∷ os)) d)) ∙ walk-made s columns room i w o os d made f u l [] ∙ ap (before (made .notes ∷ [])) h
 
 next : (i k : ℕ) → suc i + k ≡ i + suc k
 next i k = omega arith
 
-module _ (s : Song) (difficulty : Float) (columns room : ℕ) where
+module _ (s : SongFacts) (columns room : ℕ) where
   -- 8: the objects before the k-th made their notes, and it is a slider that ends too late
   late-walk : (k i : ℕ) (w : Walk) (os : List Object) (d : Draws) (nss : List (List Note)) (e : Draws)
-      → onWalk (walk s difficulty columns room i w (take k os)) d ≡ found nss e → LateAt s os k
-      → onWalk (walk s difficulty columns room i w os) d ≡ refused (stop (i + k) 8) e
+      → onWalk (walk s columns room i w (take k os)) d ≡ found nss e → LateAt s os k
+      → onWalk (walk s columns room i w os) d ≡ refused (stop (i + k) 8) e
   unfolding LateAt
   late-walk zero i w [] d nss e h l = absurd l
   late-walk zero i w (o ∷ os) d nss e h l =
-      let same = none-left s difficulty columns room i w d nss e h .1 in
-      let u = late-refuses (facts s difficulty columns i w o d) (w .prev) columns o (late-same s _ difficulty _ (dens s difficulty columns i w o d) o (o .kind) l) d in
-      sym (before-none (onWalk (walk s difficulty columns room i w (o ∷ os)) d)) ∙ walk-refused s difficulty columns room i w o os d 8 d u []
+      let same = none-left s columns room i w d nss e h .1 in
+      let u = late-refuses (facts s columns i w o d) (w .prev) columns o (late-same s _ (dens s columns i w o d) o (o .kind) l) d in
+      sym (before-none (onWalk (walk s columns room i w (o ∷ os)) d)) ∙ walk-refused s columns room i w o os d 8 d u []
       ∙ ap₂ {C = Answer Stop (List (List Note))} (λ (j : ℕ) (x : Draws). refused (stop j 8) x) (sym (add-zero i)) same
   late-walk (suc k) i w [] d nss e h l = absurd l
-  late-walk (suc k) i w (o ∷ os) d nss e h l = by-object (on (rule s difficulty columns i w o d) d) refl (late-walk k)
+  late-walk (suc k) i w (o ∷ os) d nss e h l = by-object (on (rule s columns i w o d) d) refl (late-walk k)
     where
-      by-object : (a : Answer ℕ Made) → on (rule s difficulty columns i w o d) d ≡ a
-          → ((i : ℕ) (w : Walk) (os : List Object) (d : Draws) (nss : List (List Note)) (e : Draws) → onWalk (walk s difficulty columns room i w (take k os)) d ≡ found nss e → LateAt s os k → onWalk (walk s difficulty columns room i w os) d ≡ refused (stop (i + k) 8) e)
-          → onWalk (walk s difficulty columns room i w (o ∷ os)) d ≡ refused (stop (i + suc k) 8) e
-      by-object (refused x f) u go = absurd (refused-not s difficulty columns i w o d room (take k os) nss e h x f u)
+      by-object : (a : Answer ℕ Made) → on (rule s columns i w o d) d ≡ a
+          → ((i : ℕ) (w : Walk) (os : List Object) (d : Draws) (nss : List (List Note)) (e : Draws) → onWalk (walk s columns room i w (take k os)) d ≡ found nss e → LateAt s os k → onWalk (walk s columns room i w os) d ≡ refused (stop (i + k) 8) e)
+          → onWalk (walk s columns room i w (o ∷ os)) d ≡ refused (stop (i + suc k) 8) e
+      by-object (refused x f) u go = absurd (refused-not s columns i w o d room (take k os) nss e h x f u)
       by-object (found made f) u go =
-          let g = goes-on s difficulty columns i w o d room (take k os) made f u nss e h in
-          passes-on s difficulty columns i w o d room os made f u (g .fits) (stop (i + suc k) 8) e
+          let g = goes-on s columns i w o d room (take k os) made f u nss e h in
+          passes-on s columns i w o d room os made f u (g .fits) (stop (i + suc k) 8) e
           (go (suc i) _ os f (g .rest) e (g .later) l ∙ ap (λ (j : ℕ). refused (stop j 8) e) (next i k))
 
   -- 11: the notes of the objects before the k-th fit, and with the k-th's they do not
   abbrev Full : ℕ → Type 0
   Full k = (i : ℕ) (w : Walk) (os : List Object) (d : Draws) (prior : List (List Note)) (f : Draws) (wide : ℕ) (nss : List (List Note)) (e : Draws)
-      → chartSize (w .notes) ≤ room → onWalk (walk s difficulty columns room i w (take k os)) d ≡ found prior f
-      → onWalk (walk s difficulty columns wide i w (take (suc k) os)) d ≡ found nss e → room < chartSize (w .notes + length (inWalkOrder nss))
-      → onWalk (walk s difficulty columns room i w os) d ≡ refused (stop (i + k) 11) e
+      → chartSize (w .notes) ≤ room → onWalk (walk s columns room i w (take k os)) d ≡ found prior f
+      → onWalk (walk s columns wide i w (take (suc k) os)) d ≡ found nss e → room < chartSize (w .notes + length (inWalkOrder nss))
+      → onWalk (walk s columns room i w os) d ≡ refused (stop (i + k) 11) e
 
   -- without an object nothing is added
   no-object : (i : ℕ) (w : Walk) (d : Draws) (wide : ℕ) (nss : List (List Note)) (e : Draws) → chartSize (w .notes) ≤ room
-      → onWalk (walk s difficulty columns wide i w []) d ≡ found nss e → room < chartSize (w .notes + length (inWalkOrder nss)) → ⊥
+      → onWalk (walk s columns wide i w []) d ≡ found nss e → room < chartSize (w .notes + length (inWalkOrder nss)) → ⊥
   unfolding inWalkOrder
   no-object i w d wide nss e fit h l =
-      let z : room < chartSize (w .notes + 0) = subst (λ (x : List (List Note)). room < chartSize (w .notes + length (inWalkOrder x))) (none-left s difficulty columns wide i w d nss e h .0) l in
+      let z : room < chartSize (w .notes + 0) = subst (λ (x : List (List Note)). room < chartSize (w .notes + length (inWalkOrder x))) (none-left s columns wide i w d nss e h .0) l in
       none (w .notes) fit z
     where
       none : (n : ℕ) → chartSize n ≤ room → room < chartSize (n + 0) → ⊥
@@ -143,31 +141,31 @@ module _ (s : Song) (difficulty : Float) (columns room : ℕ) where
   full-walk : (k : ℕ) → Full k
   unfolding inWalkOrder afterObject walkAfter
   full-walk zero i w [] d prior f wide nss e fit h g l = absurd (no-object i w d wide nss e fit g l)
-  full-walk zero i w (o ∷ os) d prior f wide nss e fit h g l = by-object (on (rule s difficulty columns i w o d) d) refl
+  full-walk zero i w (o ∷ os) d prior f wide nss e fit h g l = by-object (on (rule s columns i w o d) d) refl
     where
-      by-object : (a : Answer ℕ Made) → on (rule s difficulty columns i w o d) d ≡ a → onWalk (walk s difficulty columns room i w (o ∷ os)) d ≡ refused (stop (i + 0) 11) e
-      by-object (refused x f) u = absurd (refused-not s difficulty columns i w o d wide [] nss e g x f u)
+      by-object : (a : Answer ℕ Made) → on (rule s columns i w o d) d ≡ a → onWalk (walk s columns room i w (o ∷ os)) d ≡ refused (stop (i + 0) 11) e
+      by-object (refused x f) u = absurd (refused-not s columns i w o d wide [] nss e g x f u)
       by-object (found made f) u =
-          let more = goes-on s difficulty columns i w o d wide [] made f u nss e g in
-          let last = none-left s difficulty columns wide (suc i) _ f (more .rest) e (more .later) in
+          let more = goes-on s columns i w o d wide [] made f u nss e g in
+          let last = none-left s columns wide (suc i) _ f (more .rest) e (more .later) in
           let size : length (inWalkOrder nss) ≡ length (made .notes) = ap (λ (x : List (List Note)). length (inWalkOrder x)) (more .all ∙ ap (λ (x : List (List Note)). made .notes ∷ x) (last .0)) ∙ length-more (made .notes) [] ∙ add-zero (length (made .notes)) in
-          sym (before-none (onWalk (walk s difficulty columns room i w (o ∷ os)) d))
-          ∙ walk-full s difficulty columns room i w o os d made f u (lt-ltb room _ (subst (λ (n : ℕ). room < chartSize (w .notes + n)) size l)) []
+          sym (before-none (onWalk (walk s columns room i w (o ∷ os)) d))
+          ∙ walk-full s columns room i w o os d made f u (lt-ltb room _ (subst (λ (n : ℕ). room < chartSize (w .notes + n)) size l)) []
           ∙ ap₂ {C = Answer Stop (List (List Note))} (λ (j : ℕ) (x : Draws). refused (stop j 11) x) (sym (add-zero i)) (last .1)
   full-walk (suc k) i w [] d prior f wide nss e fit h g l = absurd (no-object i w d wide nss e fit g l)
-  full-walk (suc k) i w (o ∷ os) d prior f wide nss e fit h g l = by-object (on (rule s difficulty columns i w o d) d) refl (full-walk k)
+  full-walk (suc k) i w (o ∷ os) d prior f wide nss e fit h g l = by-object (on (rule s columns i w o d) d) refl (full-walk k)
     where
       same : (a b c : ℕ) {n : ℕ} → n ≡ b + c → room < chartSize (a + n) → room < chartSize (a + b + c)
       same a b c e h = omega arith
 
-      by-object : (a : Answer ℕ Made) → on (rule s difficulty columns i w o d) d ≡ a → Full k → onWalk (walk s difficulty columns room i w (o ∷ os)) d ≡ refused (stop (i + suc k) 11) e
-      by-object (refused x x') u go = absurd (refused-not s difficulty columns i w o d wide (take (suc k) os) nss e g x x' u)
+      by-object : (a : Answer ℕ Made) → on (rule s columns i w o d) d ≡ a → Full k → onWalk (walk s columns room i w (o ∷ os)) d ≡ refused (stop (i + suc k) 11) e
+      by-object (refused x x') u go = absurd (refused-not s columns i w o d wide (take (suc k) os) nss e g x x' u)
       by-object (found made m) u go =
-          let here = goes-on s difficulty columns i w o d room (take k os) made m u prior f h in
-          let more = goes-on s difficulty columns i w o d wide (take (suc k) os) made m u nss e g in
+          let here = goes-on s columns i w o d room (take k os) made m u prior f h in
+          let more = goes-on s columns i w o d wide (take (suc k) os) made m u nss e g in
           let size = ap (λ (x : List (List Note)). length (inWalkOrder x)) (more .all) ∙ length-more (made .notes) (more .rest) in
-          passes-on s difficulty columns i w o d room os made m u (here .fits) (stop (i + suc k) 11) e
-          (go (suc i) (afterObject (facts s difficulty columns i w o d) o (dens s difficulty columns i w o d) made w) os m (here .rest) f wide (more .rest) e
+          passes-on s columns i w o d room os made m u (here .fits) (stop (i + suc k) 11) e
+          (go (suc i) (afterObject (facts s columns i w o d) o (dens s columns i w o d) made w) os m (here .rest) f wide (more .rest) e
           (ltb-false room _ (here .fits)) (here .later) (more .later) (same (w .notes) (length (made .notes)) (length (inWalkOrder (more .rest))) size l)
           ∙ ap (λ (j : ℕ). refused (stop j 11) e) (next i k))
 
@@ -181,7 +179,7 @@ module _ (s : Song) (buffer : List ℕ) (a : ℕ) where
   d = tallied a 0 st
 
   abbrev whole : ℕ → List Object → Rule ℕ AtObject (List (List Note))
-  whole wide os = walk s (conversionDifficulty (s .settings) (s .breaks) (s .objects)) (columnsOf s) wide 0 beginning os
+  whole wide os = walk (songFacts s) (columnsOf s) wide 0 beginning os
 
   -- an end on the list of values, from the state
   played : (m : Rule ℕ AtObject (List (List Note))) (nss : List (List Note)) (n : ℕ) → run m (values a st) ≡ ended nss n
@@ -205,7 +203,7 @@ module _ (s : Song) (buffer : List ℕ) (a : ℕ) where
   pub eight-refuses : (i n : ℕ) → TooLate s (length buffer) a i n → job s buffer a ≡ refusing Numbers.sliderEnd i n buffer
   eight-refuses i n h =
       let p = played (whole (length buffer) (take i (s .objects))) (h .nss) n (h .made) in
-      stopped 8 i n (p .1) (h .header) _ refl (late-walk s _ (columnsOf s) (length buffer) i 0 beginning (s .objects) d (h .nss) _ (p .0) (h .late))
+      stopped 8 i n (p .1) (h .header) _ refl (late-walk (songFacts s) (columnsOf s) (length buffer) i 0 beginning (s .objects) d (h .nss) _ (p .0) (h .late))
 
   pub eleven-refuses : (i n : ℕ) → TooLong s (length buffer) a i n → job s buffer a ≡ refusing Numbers.chartTooShort i n buffer
   unfolding beginning
@@ -214,7 +212,7 @@ module _ (s : Song) (buffer : List ℕ) (a : ℕ) where
       let p = played (whole (length buffer) (take i (s .objects))) (h .before) (h .drawn) (h .fit) in
       let q = played (whole wide (take (suc i) (s .objects))) (h .nss) n (h .made wide (same wide)) in
       stopped 11 i n (q .1) (h .header) _ refl
-      (full-walk s _ (columnsOf s) (length buffer) i 0 beginning (s .objects) d (h .before) _ wide (h .nss) _ (first (h .header)) (p .0) (q .0) (out (length (inWalkOrder (h .nss))) (h .long)))
+      (full-walk (songFacts s) (columnsOf s) (length buffer) i 0 beginning (s .objects) d (h .before) _ wide (h .nss) _ (first (h .header)) (p .0) (q .0) (out (length (inWalkOrder (h .nss))) (h .long)))
     where
       same : (n : ℕ) → n ≤ n
       same n = omega arith

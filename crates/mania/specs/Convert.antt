@@ -14,6 +14,9 @@ use Rattle.model.specs.declared.Position.{Position}
 use Rattle.model.specs.declared.Kind.{Kind}
 use Rattle.model.specs.declared.Kind.the-variants.{Circle, Slider, Spinner, Hold}
 use Rattle.model.specs.declared.Object.{Object}
+use Rattle.model.specs.declared.TimingPoint.{TimingPoint}
+use Rattle.model.specs.declared.DifficultyPoint.{DifficultyPoint}
+use Rattle.model.specs.declared.EffectPoint.{EffectPoint}
 use Rattle.model.specs.Song.{Song}
 use Rattle.mania.specs.declared.Facts.{Facts}
 use Rattle.mania.specs.declared.PrevValues.{PrevValues}
@@ -92,12 +95,34 @@ meets (Slider repeats distance node) start d = d
 meets (Spinner duration) start d = d
 meets (Hold duration) start d = d
 
--- the facts in force at an object
-unfoldable pub factsAt : Song → Float → Density → Object → Facts
-factsAt s difficulty d o =
+-- `conversion_difficulty` of a song
+unfoldable pub difficultyOf : Song → Float
+difficultyOf s = conversionDifficulty (s .settings) (s .breaks) (s .objects)
+
+-- what the walk takes of a song beside its objects
+pub record SongFacts : Type 0 where
+  pub difficulty : Float
+  pub multiplier : Float
+  pub timingPoints : List TimingPoint
+  pub difficultyPoints : List DifficultyPoint
+  pub effectPoints : List EffectPoint
+
+unfoldable pub songFacts : Song → SongFacts
+songFacts s =
     record {
-      difficulty = difficulty;
+      difficulty = difficultyOf s;
       multiplier = s .settings .multiplier;
+      timingPoints = s .timingPoints;
+      difficultyPoints = s .difficultyPoints;
+      effectPoints = s .effectPoints;
+    }
+
+-- the facts in force at an object
+unfoldable pub factsAt : SongFacts → Density → Object → Facts
+factsAt s d o =
+    record {
+      difficulty = s .difficulty;
+      multiplier = s .multiplier;
       beat = beatAt (s .timingPoints) (o .start);
       velocity = velocityAt (s .difficultyPoints) (o .start);
       kiai = kiaiAt (s .effectPoints) (o .start);
@@ -171,17 +196,17 @@ objectIn columns room f w o = do
   if ltb room (chartSize (w .notes + length (made .notes))) then refuse tooShort else give made
 
 -- the notes of each object from the i-th on, in walk order
-unfoldable pub walk : Song → Float → ℕ → ℕ → ℕ → Walk → List Object → Rule ℕ AtObject (List (List Note))
-walk s difficulty columns room i w [] = give []
-walk s difficulty columns room i w (o ∷ os) = do
+unfoldable pub walk : SongFacts → ℕ → ℕ → ℕ → Walk → List Object → Rule ℕ AtObject (List (List Note))
+walk s columns room i w [] = give []
+walk s columns room i w (o ∷ os) = do
   let d = meets (o .kind) (o .start) (w .density)
-  let f = factsAt s difficulty d o
+  let f = factsAt s d o
   made ← label (λ p. i) (at i) (objectIn columns room f w o)
-  rest ← walk s difficulty columns room (suc i) (afterObject f o d made w) os
+  rest ← walk s columns room (suc i) (afterObject f o d made w) os
   give (made .notes ∷ rest)
 
 -- `convert`, of a song that was read: 11 for a buffer that does not hold a header, and then the walk
 unfoldable pub convert : Song → ℕ → Rule ℕ AtObject (List (List Note))
 convert s room =
     if ltb room headerSize then refuse (at 0 tooShort)
-    else walk s (conversionDifficulty (s .settings) (s .breaks) (s .objects)) (columnsOf s) room 0 beginning (s .objects)
+    else walk (songFacts s) (columnsOf s) room 0 beginning (s .objects)

@@ -2,7 +2,6 @@
 use mathlib.Core.Path.{_≡_}
 use Prim.Native.Nat.{ℕ, suc, _+_, _-_, max}
 use mathlib.Core.List.{List, [], _∷_}
-use lib.Ieee.{Float}
 use lib.ListN.{length}
 use Rattle.rules.specs.Ledger.{longest}
 use Rattle.rules.specs.Refusal.{ObjectRule}
@@ -10,7 +9,6 @@ use Rattle.random.specs.Generator.{values}
 use Rattle.random.specs.Play.{Answer, refused, tallied}
 use Rattle.random.specs.declared.Random.{Random}
 use Rattle.random.specs.declared.Draws.{Draws}
-use Rattle.model.specs.Song.{Song}
 use Rattle.model.specs.declared.Object.{Object}
 use Rattle.mania.specs.declared.Facts.{Facts}
 use Rattle.mania.specs.declared.Note.{Note}
@@ -18,22 +16,22 @@ use Rattle.mania.specs.declared.Stair.{Stair}
 use Rattle.mania.specs.Made.{Made}
 use Rattle.mania.specs.LimitedQueue.{Density}
 use Rattle.mania.specs.Object.{object}
-use Rattle.mania.specs.Convert.{Walk, meets, factsAt, walkAfter, walk}
+use Rattle.mania.specs.Convert.{Walk, SongFacts, meets, factsAt, walkAfter, walk}
 use Rattle.mania.specs.Walked.{Stop, stop, onWalk}
 use Rattle.mania.specs.Chart.{body, written}
 use Rattle.mania.specs.Single.{made, refusal, Single, entryRefusal, singleObject}
 use Rattle.mania.specs.Laws.Walks.{before}
 use Rattle.chart.specs.Layout.{chartSize}
 
--- A walk has come to w, object i of the song is next and `os` follow it, with the generator's state and the draws left in d; `buffer` is what the
+-- A walk with any difficulty that the entry allows has come to w, object i of the song is next and `os` follow it, with the generator's state and the draws left in d; `buffer` is what the
 -- notes so far leave of the chart buffer.
-module _ (s : Song) (difficulty : Float) (columns i : ℕ) (w : Walk) (o : Object) (os : List Object) (d : Draws) (buffer : List ℕ) where
+module _ (s : SongFacts) (columns i : ℕ) (w : Walk) (o : Object) (os : List Object) (d : Draws) (buffer : List ℕ) where
   -- the density and the facts at the object, and its rule
   abbrev pub met : Density
   met = meets (o .kind) (o .start) (w .density)
 
   abbrev pub facts : Facts
-  facts = factsAt s difficulty met o
+  facts = factsAt s met o
 
   abbrev pub rule : ObjectRule Made
   rule = object facts (w .prev) columns o
@@ -48,11 +46,11 @@ module _ (s : Song) (difficulty : Float) (columns i : ℕ) (w : Walk) (o : Objec
 
   -- the walk from the object on
   abbrev pub here : Answer Stop (List (List Note))
-  here = onWalk (walk s difficulty columns room i w (o ∷ os)) d
+  here = onWalk (walk s columns room i w (o ∷ os)) d
 
   -- the walk after the object, by the mask, last column and stair that it left and the count of its notes
   abbrev pub next : ℕ → ℕ → Stair → ℕ → Draws → Answer Stop (List (List Note))
-  next mask last stair count e = onWalk (walk s difficulty columns room (suc i) (walkAfter facts o met mask last stair count w) os) e
+  next mask last stair count e = onWalk (walk s columns room (suc i) (walkAfter facts o met mask last stair count w) os) e
 
   -- the walk goes on after it with what the entry gave: k notes, mask, last column, stair, the state r and n draws
   pub record GoesOn (k mask last : ℕ) (stair : Stair) (r : Random) (n : ℕ) : Type 0 where

@@ -112,8 +112,8 @@ unfoldable pub drainTime : Float → Float → Float → ℤ
 drainTime breaks first last = orTenThousand (whole Cut (div binary64 (sub binary64 (sub binary64 last first) breaks) (double 1000 1)))
 
 -- hp and ar, and objects per second, at most 12
-unfoldable pub difficultyOf : Settings → Float → Float → Float → ℕ → Float
-difficultyOf s breaks first last objects =
+unfoldable pub difficultyBy : Settings → Float → Float → Float → ℕ → Float
+difficultyBy s breaks first last objects =
     let life = div binary64 (add binary32 (s .hp) (clamped (single 4 1) (single 7 1) (s .ar))) (double 3 2) in
     let pace = mul binary64 (div binary64 (double# objects) (ofInt binary64 (drainTime breaks first last))) (double 9 1) in
     let both = add binary64 life pace in
@@ -122,4 +122,4 @@ difficultyOf s breaks first last objects =
 -- `conversion_difficulty`: by the total break time, the first and the last start, and the number of objects
 unfoldable pub conversionDifficulty : Settings → List BreakPeriod → List Object → Float
 conversionDifficulty s breaks objects =
-    difficultyOf s (breakTime (double 0 1) breaks) (firstStart objects) (lastStart (double 0 1) objects) (length objects)
+    difficultyBy s (breakTime (double 0 1) breaks) (firstStart objects) (lastStart (double 0 1) objects) (length objects)

@@ -5,7 +5,6 @@ use Prim.Native.Nat.{ℕ, zero, suc, _≤_}
 use mathlib.Core.Bool.{true}
 use mathlib.Core.List.{List, [], _∷_}
 use lib.Count.{ones}
-use lib.Ieee.{Float}
 use lib.ListN.{length, take}
 use Rattle.rules.specs.Numbers as Numbers
 use Rattle.rules.specs.Rule.{give, _>>=_, ended, run}
@@ -20,8 +19,7 @@ use Rattle.mania.specs.declared.Note.{Note}
 use Rattle.mania.specs.Made.{Made}
 use Rattle.mania.specs.LimitedQueue.{Density}
 use Rattle.mania.specs.Object.{object}
-use Rattle.mania.specs.Convert.{Walk, columnsOf, beginning, meets, factsAt, afterObject, walk}
-use Rattle.mania.specs.PatternGenerator.{conversionDifficulty}
+use Rattle.mania.specs.Convert.{Walk, SongFacts, columnsOf, songFacts, beginning, meets, factsAt, afterObject, walk}
 use Rattle.mania.specs.Chart.{inWalkOrder}
 use Rattle.mania.specs.Refusals.{NoValidColumn, OffTheDeck}
 use Rattle.mania.specs.Single.{refusal, patternFits, singleObject}
@@ -44,18 +42,18 @@ pub record Reached (columns : ℕ) (v : PrevValues) : Type 0 where
   pub fits : patternFits v columns ≡ true
 
 -- The state of the walk after its first k objects, without the buffer's limit.
-unfoldable pub walkTo : Song → Float → ℕ → ℕ → Walk → List Object → ObjectRule Walk
-walkTo s difficulty columns zero w os = give w
-walkTo s difficulty columns (suc k) w [] = give w
-walkTo s difficulty columns (suc k) w (o ∷ os) = do
+unfoldable pub walkTo : SongFacts → ℕ → ℕ → Walk → List Object → ObjectRule Walk
+walkTo s columns zero w os = give w
+walkTo s columns (suc k) w [] = give w
+walkTo s columns (suc k) w (o ∷ os) = do
   let d = meets (o .kind) (o .start) (w .density)
-  let f = factsAt s difficulty d o
+  let f = factsAt s d o
   made ← object f (w .prev) columns o
-  walkTo s difficulty columns k (afterObject f o d made w) os
+  walkTo s columns k (afterObject f o d made w) os
 
 -- The same from the beginning of a song.
 unfoldable pub reaches : Song → ℕ → ObjectRule Walk
-reaches s k = walkTo s (conversionDifficulty (s .settings) (s .breaks) (s .objects)) (columnsOf s) k beginning (s .objects)
+reaches s k = walkTo (songFacts s) (columnsOf s) k beginning (s .objects)
 
 -- From the state r, under the allowance a, `reaches s k` ends after n draws with `notes` notes.
 pub record Follows (s : Song) (k a n : ℕ) (r : Random) (notes : ℕ) : Type 0 where
@@ -76,7 +74,7 @@ pub record Reasons : Type 0 where
       → (a n : ℕ) (r : Random) (made : Made) → run (object f (w .prev) columns o) (values a r) ≡ ended made n → Reached columns (afterObject f o d made w .prev)
   -- `reaches` follows the walk: if `walk` ends over the first k objects, so does `reaches`, after as many draws and with as many notes.
   pub follows : (s : Song) (room k a n : ℕ) (r : Random) (nss : List (List Note))
-      → run (walk s (conversionDifficulty (s .settings) (s .breaks) (s .objects)) (columnsOf s) room 0 beginning (take k (s .objects))) (values a r) ≡ ended nss n
+      → run (walk (songFacts s) (columnsOf s) room 0 beginning (take k (s .objects))) (values a r) ≡ ended nss n
       → Follows s k a n r (length (inWalkOrder nss))
   -- By `begins` and `kept` it comes only to `Reached` patterns, from any state of the generator. An accepted record has at most 9 columns.
   pub reached : (s : Song) → columnsOf s ≤ 9 → (k a n : ℕ) (r : Random) (w : Walk) → run (reaches s k) (values a r) ≡ ended w n → Reached (columnsOf s) (w .prev)

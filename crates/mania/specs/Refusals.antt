@@ -17,15 +17,14 @@ use Rattle.mania.specs.declared.Next.the-variants.{Draw, Step}
 use Rattle.model.specs.declared.Object.{Object}
 use Rattle.model.specs.declared.Kind.{Kind}
 use Rattle.model.specs.declared.Kind.the-variants.{Circle, Slider, Spinner, Hold}
-use Rattle.mania.specs.Steps.{double}
 use Rattle.mania.specs.PatternType.{reverseStair, contains}
 use Rattle.mania.specs.Pattern.{Pattern, free, put, add}
 use Rattle.mania.specs.Object.{object}
 use Rattle.mania.specs.HitObject
 use Rattle.mania.specs.PathObject.{endTime, latest}
 use Rattle.model.specs.Song.{Song}
-use Rattle.mania.specs.Convert.{AtObject, seed, columnsOf, factsAt, beginning, walk}
-use Rattle.mania.specs.PatternGenerator.{randomStart, columnSearch, conversionDifficulty}
+use Rattle.mania.specs.Convert.{SongFacts, AtObject, seed, columnsOf, songFacts, factsAt, beginning, walk}
+use Rattle.mania.specs.PatternGenerator.{randomStart, columnSearch}
 use Rattle.mania.specs.Chart.{inWalkOrder}
 use Rattle.chart.specs.Layout.{headerSize, chartSize}
 
@@ -37,9 +36,9 @@ Late f o (Spinner duration) = ⊥
 Late f o (Hold duration) = ⊥
 
 -- the object at an index does; of the facts in force the end takes velocity, beat length and multiplier alone
-unfoldable pub LateAt : Song → List Object → ℕ → Type 0
+unfoldable pub LateAt : SongFacts → List Object → ℕ → Type 0
 LateAt s [] i = ⊥
-LateAt s (o ∷ os) zero = Late (factsAt s (double 0 1) (beginning .density) o) o (o .kind)
+LateAt s (o ∷ os) zero = Late (factsAt s (beginning .density) o) o (o .kind)
 LateAt s (o ∷ os) (suc i) = LateAt s os i
 
 -- 9: the object's rule, from the state r under the allowance a, comes to a search that has no valid column
@@ -91,18 +90,17 @@ pub record Sources : Type 1 where
 -- how the walk over a song's first k objects ends, with so much room
 abbrev pub firstObjects : Song → (room allowance k : ℕ) → Outcome ℕ AtObject (List (List Note))
 firstObjects s room allowance k =
-    run (walk s (conversionDifficulty (s .settings) (s .breaks) (s .objects)) (columnsOf s) room 0 beginning (take k (s .objects)))
-    (values allowance (seeded (seed (s .settings))))
+    run (walk (songFacts s) (columnsOf s) room 0 beginning (take k (s .objects))) (values allowance (seeded (seed (s .settings))))
 
 -- 8: the buffer holds a header and the notes of the objects before index i, which took n draws, and the slider at index i ends too late.
 pub record TooLate (s : Song) (room allowance i n : ℕ) : Type 0 where
   pub header : headerSize ≤ room
   pub nss : List (List Note)
   pub made : firstObjects s room allowance i ≡ ended nss n
-  pub late : LateAt s (s .objects) i
+  pub late : LateAt (songFacts s) (s .objects) i
 
 -- A refusal r of a walk over `os` whose first object has index i, if its previous patterns are `Reached`.
-pub record InWalk (s : Song) (i : ℕ) (os : List Object) (r : AtObject) : Type 0 where
+pub record InWalk (s : SongFacts) (i : ℕ) (os : List Object) (r : AtObject) : Type 0 where
   -- 8: the k-th of them is a slider that ends too late
   pub late : r .refusal ≡ lateEnd → (k : ℕ) × (r .object ≡ i + k) × LateAt s os k
   -- never 9 or 10

@@ -42,9 +42,12 @@ patternFits v columns =
     leb 1 columns && leb columns 9 && ltb (v .mask) (2 ^ columns)
     && (if eqb (v .mask) 0 then eqb (v .last) 0 else ltb (v .last) columns && not (free (v .mask) (v .last)))
 
--- the multiplier, and a difficulty that is finite and not too high
+-- a difficulty: finite and at most 12, negative ones and −0.0 included
+unfoldable pub allowedDifficulty : Float → Bool
+allowedDifficulty x = finite x && le x mostDifficulty
+
 unfoldable pub settingsFit : Facts → Bool
-settingsFit f = inside multiplierRange (f .multiplier) && (finite (f .difficulty) && le (f .difficulty) mostDifficulty)
+settingsFit f = inside multiplierRange (f .multiplier) && allowedDifficulty (f .difficulty)
 
 -- beat length and velocity
 unfoldable pub pointsFit : Facts → Bool

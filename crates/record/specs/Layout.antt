@@ -1,5 +1,5 @@
 -- Where the parts of a record stand, in bits; src/layout.rt has the same numbers. Assumes nothing.
-use Prim.Native.Nat.{ℕ}
+use Prim.Native.Nat.{ℕ, _+_, _*_}
 
 -- ---- the header's fields, from the record's first bit on; the lists follow it, the breaks first
 
@@ -52,6 +52,14 @@ entry = 128
 
 abbrev pub effectEntry : ℕ
 effectEntry = 65
+
+-- ---- the lists of points, from the first bit of the timing points on, by how many timing and difficulty points there are
+
+abbrev pub difficultyPoints : ℕ → ℕ
+difficultyPoints timing = entry * timing
+
+abbrev pub effectPoints : ℕ → ℕ → ℕ
+effectPoints timing difficulty = entry * timing + entry * difficulty
 
 -- ---- an object's fields, from its first bit on, which is that of its kind; then what the kind adds
 

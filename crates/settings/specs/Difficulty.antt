@@ -1,11 +1,10 @@
--- The conversion difficulty of accepted settings is finite and at most 12. Breaks can make it negative, so the bounds are on sizes, whatever the sign.
--- Assumes nothing.
+-- The conversion difficulty of accepted settings is one that the single-object entry allows: finite and at most 12. Breaks can make it negative, so
+-- the bounds are on sizes, whatever the sign. Assumes nothing.
 use mathlib.Core.Path.{_≡_, refl, sym, ap, _∙_, subst}
 use Prim.Native.Nat.{ℕ, zero, suc, _+_, _-_, _*_, _^_, _≤_, _<_, min}
 use native.Mathlib.Nat.{le-trans, le-of-eq, mul-one, mul-pos, mul-assoc, mul-comm, mul-le-mul, mul-le-mul-right, mul-mul-mul-comm, add-le-add, add-mul}
 use native.Mathlib.Omega.{arith}
 use mathlib.Core.Bool.{Bool, true, false, not, _&&_, Bool·beq, cond}
-use mathlib.Core.List.{List}
 use lib.ListN.{length}
 use borrow.Author.Tests.{lt-ltb, ne-eqb}
 use lib.Dec.{T, ltb, lit<, lit≤}
@@ -22,11 +21,12 @@ use Rattle.floats.specs.Whole.{whole, rounded, signed}
 use Rattle.floats.specs.Laws.Values.{UpTo, le-not-lt, round-at-most}
 use Rattle.floats.specs.declared.Way.the-variants.{Cut}
 use Rattle.model.specs.declared.Settings.{Settings}
-use Rattle.model.specs.declared.BreakPeriod.{BreakPeriod}
-use Rattle.model.specs.declared.Object.{Object}
+use Rattle.model.specs.Song.{Song}
 use Rattle.floats.specs.Least.{least, clamped}
 use Rattle.mania.specs.Steps.{single, double, double#}
-use Rattle.mania.specs.PatternGenerator.{orTenThousand, drainTime, difficultyOf, conversionDifficulty}
+use Rattle.mania.specs.PatternGenerator.{orTenThousand, drainTime, difficultyBy, conversionDifficulty}
+use Rattle.mania.specs.Convert.{difficultyOf}
+use Rattle.mania.specs.Single.{allowedDifficulty}
 use Rattle.settings.specs.Accepted.{Accepted}
 use Rattle.settings.specs.Laws.{at-most-ten}
 
@@ -228,27 +228,22 @@ not-above (fin false m e) f h =
     let y = fin false 3 (pos 2) in
     subst T (sym (le-not-lt x y (num x) (den x) (num y) (den y) (refl, refl) (refl, refl) ∙ ap not h)) tt
 
--- finite, and at most 12
-pub record Twelve (x : Float) : Type 0 where
-  pub real : finite x ≡ true
-  pub most : le x mostDifficulty ≡ true
+twelve : allowedDifficulty mostDifficulty ≡ true
+unfolding allowedDifficulty round le lt eq
+twelve = refl
 
-twelve : Twelve mostDifficulty
-unfolding round le lt eq
-twelve = record { real = refl; most = refl }
-
-least-twelve : (x : Float) → T (finite x) → Twelve (least x mostDifficulty)
-unfolding least
+least-twelve : (x : Float) → T (finite x) → allowedDifficulty (least x mostDifficulty) ≡ true
+unfolding least allowedDifficulty
 least-twelve x f = pick (lt mostDifficulty x) refl
   where
-    pick : (b : Bool) → lt mostDifficulty x ≡ b → Twelve (cond b mostDifficulty x)
+    pick : (b : Bool) → lt mostDifficulty x ≡ b → allowedDifficulty (cond b mostDifficulty x) ≡ true
     pick true h = twelve
-    pick false h = record { real = is-true (finite x) f; most = is-true (le x mostDifficulty) (not-above x f h) }
+    pick false h = rw (is-true (finite x) f) (is-true (le x mostDifficulty) (not-above x f h))
 
 -- a record has at most 4,095 objects
-pub difficulty-twelve : (s : Settings) (breaks first last : Float) (objects : ℕ) → Accepted s → objects ≤ mostEntries → Twelve (difficultyOf s breaks first last objects)
-unfolding difficultyOf drainTime
-difficulty-twelve s breaks first last objects a h =
+difficulty-by : (s : Settings) (breaks first last : Float) (objects : ℕ) → Accepted s → objects ≤ mostEntries → allowedDifficulty (difficultyBy s breaks first last objects) ≡ true
+unfolding difficultyBy drainTime
+difficulty-by s breaks first last objects a h =
     let hp = small-of 10 (s .hp) (at-most-ten (s .hp) (a .hp)) in
     let ar = small-clamped (s .ar) (small-of 10 (s .ar) (at-most-ten (s .ar) (a .ar))) in
     let life = div-small binary64 _ (double 3 2) 20 (add-small binary32 (s .hp) _ 10 10 hp ar (lit≤ tt)) large-three-halves (lit≤ tt) in
@@ -261,6 +256,6 @@ difficulty-twelve s breaks first last objects a h =
     more : Small objects (double# objects) → Small mostEntries (double# objects)
     more k = record { real = k .real; most = le-trans (k .most) (mul-le-mul-right (den (double# objects)) h) }
 
-pub conversion-twelve : (s : Settings) (breaks : List BreakPeriod) (os : List Object) → Accepted s → length os ≤ mostEntries → Twelve (conversionDifficulty s breaks os)
-unfolding conversionDifficulty
-conversion-twelve s breaks os a h = difficulty-twelve s _ _ _ _ a h
+pub difficulty-allowed : (s : Song) → Accepted (s .settings) → length (s .objects) ≤ mostEntries → allowedDifficulty (difficultyOf s) ≡ true
+unfolding difficultyOf conversionDifficulty
+difficulty-allowed s a h = difficulty-by (s .settings) _ _ _ _ a h

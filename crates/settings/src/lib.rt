@@ -4,7 +4,7 @@ ghost use lib.Dec.{ltb};
 ghost use Rattle.rules.specs.Rule.{if_then_else_};
 ghost use Rattle.mania.specs.Convert as Convert;
 ghost use Rattle.mania.specs.Convert.{columnsByOd, columnsByShare, columnsAt, columnsBy, keysOr};
-ghost use Rattle.mania.specs.PatternGenerator.{orTenThousand, drainTime, difficultyOf};
+ghost use Rattle.mania.specs.PatternGenerator.{orTenThousand, drainTime, difficultyBy};
 ghost use Rattle.settings.specs.Accepted.{Accepted};
 use floats::Way;
 use model::Settings;
@@ -106,7 +106,7 @@ fn drain_time(breaks: f64, first: f64, last: f64) -> i32
 
 // `conversion_difficulty`.
 pub fn conversion_difficulty(s: Settings, breaks: f64, first: f64, last: f64, objects: u32) -> f64
-    ensures { λ r. ⌜ r ≡ difficultyOf s breaks first last objects ⌝ }
+    ensures { λ r. ⌜ r ≡ difficultyBy s breaks first last objects ⌝ }
 {
     let drain = drain_time(breaks, first, last);
     let life = std::num::f32_to_f64_with_nan(s.hp + floats::clamp_f32(4.0, 7.0, s.ar)) / 1.5;

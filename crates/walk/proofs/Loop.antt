@@ -16,7 +16,6 @@ use Rattle.random.specs.declared.Draws.{Draws}
 use Rattle.model.specs.declared.Object.{Object}
 use Rattle.rules.specs.Each.{Each}
 use Rattle.record.specs.Layout.{longest}
-use Rattle.record.specs.Record.{songOf}
 use Rattle.record.specs.Refusal.{entries}
 use Rattle.record.specs.Object.{readObject, objectEnd, objects}
 use Rattle.record.specs.Laws.Objects.{objects-cons}
@@ -40,9 +39,9 @@ use Rattle.walk.specs.declared.Song.{Song}
 use Rattle.walk.specs.declared.InForce.{InForce}
 use Rattle.walk.specs.declared.Walk.{Walk}
 use Rattle.walk.specs.Kept.{walkOf}
-use Rattle.walk.specs.Steps.{OfRecord, InForceAt, factsBy, factsIn, densityAt, objectRule, Sound, Next, Stops, refuses, full, rule, Written}
+use Rattle.walk.specs.Steps.{givenFacts, InForceAt, factsBy, factsIn, densityAt, objectRule, Sound, Next, Stops, refuses, full, rule, Written}
 
--- ---- notes in walk order, and their bytes
+-- ---- notes in walk order, and their points
 
 order-more : (nss : List (List Note)) (ns : List Note) → inWalkOrder (nss ++ ns ∷ []) ≡ inWalkOrder nss ++ ns
 unfolding inWalkOrder
@@ -64,11 +63,11 @@ none-written s i = sym (ap (λ (k : ℕ). take i s ++ drop k s) (add-zero i) ∙
 -- ---- the loop's head
 
 -- before object i: the notes of the objects passed, and the rule of the rest
-pub record At (bytes part entry chart : List ℕ) (g : Song) (start count : ℕ) (d : Draws) (w : Walk) (here : ℕ) (rest : Draws) (i : ℕ) : Type 0 where
+pub record At (points part entry chart : List ℕ) (g : Song) (start count : ℕ) (d : Draws) (w : Walk) (here : ℕ) (rest : Draws) (i : ℕ) : Type 0 where
   pub nss : List (List Note)
   pub passed : i ≤ count
-  pub says : before nss (onWalk (Convert.walk (songOf bytes) (g .difficulty) (g .columns) (length entry) i (walkOf w) (objects part here (count - i))) rest)
-      ≡ rule bytes part g (length entry) start count d
+  pub says : before nss (onWalk (Convert.walk (givenFacts points g) (g .columns) (length entry) i (walkOf w) (objects part here (count - i))) rest)
+      ≡ rule points part g (length entry) start count d
   pub written : chart ≡ splice entry 8 (body (inWalkOrder nss))
   pub number : w .notes ≡ length (inWalkOrder nss)
   pub few : w .notes ≤ mostNotes * i
@@ -82,9 +81,9 @@ unfolding before
 before-none (found mss d) = refl
 before-none (refused r d) = refl
 
-module _ (bytes part entry : List ℕ) (g : Song) (start count : ℕ) (d : Draws) where
+module _ (points part entry : List ℕ) (g : Song) (start count : ℕ) (d : Draws) where
   pub at-start : (w : Walk) → walkOf w ≡ beginning → Sound (g .columns) w → start ≤ 7 → 8 ≤ length entry → Each InRange (objects part start count)
-      → At bytes part entry entry g start count d w start d 0
+      → At points part entry entry g start count d w start d 0
   unfolding inWalkOrder walkOf beginning
   at-start w e s n r h =
       let zero-notes : w .notes ≡ 0 = ap (λ (x : Convert.Walk). x .notes) e in
@@ -93,8 +92,8 @@ module _ (bytes part entry : List ℕ) (g : Song) (start count : ℕ) (d : Draws
         passed = omega arith;
         says =
             before-none _
-            ∙ ap (λ (x : Convert.Walk). onWalk (Convert.walk (songOf bytes) (g .difficulty) (g .columns) (length entry) 0 x (objects part start (count - 0))) d) e
-            ∙ ap (λ (k : ℕ). rule bytes part g (length entry) start k d) (sub-zero count);
+            ∙ ap (λ (x : Convert.Walk). onWalk (Convert.walk (givenFacts points g) (g .columns) (length entry) 0 x (objects part start (count - 0))) d) e
+            ∙ ap (λ (k : ℕ). rule points part g (length entry) start k d) (sub-zero count);
         written = none-written entry 8;
         number = zero-notes;
         few = omega arith;
@@ -104,7 +103,7 @@ module _ (bytes part entry : List ℕ) (g : Song) (start count : ℕ) (d : Draws
         near = omega arith;
       }
 
-  module _ (chart : List ℕ) (w : Walk) (here : ℕ) (rest : Draws) (i : ℕ) (l : i < count) (a : At bytes part entry chart g start count d w here rest i) where
+  module _ (chart : List ℕ) (w : Walk) (here : ℕ) (rest : Draws) (i : ℕ) (l : i < count) (a : At points part entry chart g start count d w here rest i) where
     abbrev o : Object
     o = readObject part here
 
@@ -123,27 +122,27 @@ module _ (bytes part entry : List ℕ) (g : Song) (start count : ℕ) (d : Draws
     pub in-range : InRange o
     in-range = ranges .0
 
-    from-here : before (a .nss) (onWalk (Convert.walk (songOf bytes) (g .difficulty) (g .columns) (length entry) i (walkOf w) (o ∷ os)) rest)
-        ≡ rule bytes part g (length entry) start count d
+    from-here : before (a .nss) (onWalk (Convert.walk (givenFacts points g) (g .columns) (length entry) i (walkOf w) (o ∷ os)) rest)
+        ≡ rule points part g (length entry) start count d
     from-here =
-        ap (λ (x : List Object). before (a .nss) (onWalk (Convert.walk (songOf bytes) (g .difficulty) (g .columns) (length entry) i (walkOf w) x) rest)) (sym split)
+        ap (λ (x : List Object). before (a .nss) (onWalk (Convert.walk (givenFacts points g) (g .columns) (length entry) i (walkOf w) x) rest)) (sym split)
         ∙ a .says
 
     -- the facts are the song's
-    module _ (c : InForce) (F : factsIn g c w o ≡ factsAt (songOf bytes) (g .difficulty) (densityAt w o) o) where
-      ruled : on (object (factsAt (songOf bytes) (g .difficulty) (densityAt w o) o) (w .prev) (g .columns) o) rest ≡ objectRule g c w o rest
+    module _ (c : InForce) (F : factsIn g c w o ≡ factsAt (givenFacts points g) (densityAt w o) o) where
+      ruled : on (object (factsAt (givenFacts points g) (densityAt w o) o) (w .prev) (g .columns) o) rest ≡ objectRule g c w o rest
       ruled = ap (λ (f : Facts). on (object f (w .prev) (g .columns) o) rest) (sym F)
 
-      pub at-refused : (n : ℕ) (e : Draws) → length chart ≡ length entry → Stops chart g c w o rest n e → rule bytes part g (length entry) start count d ≡ refused (stop i n) e
+      pub at-refused : (n : ℕ) (e : Draws) → length chart ≡ length entry → Stops chart g c w o rest n e → rule points part g (length entry) start count d ≡ refused (stop i n) e
       unfolding walkOf
-      at-refused n e z (refuses h) = sym from-here ∙ walk-refused (songOf bytes) (g .difficulty) (g .columns) (length entry) i (walkOf w) o os rest n e (ruled ∙ h) (a .nss)
+      at-refused n e z (refuses h) = sym from-here ∙ walk-refused (givenFacts points g) (g .columns) (length entry) i (walkOf w) o os rest n e (ruled ∙ h) (a .nss)
       at-refused n e z (full made h t k) =
           sym from-here
-          ∙ walk-full (songOf bytes) (g .difficulty) (g .columns) (length entry) i (walkOf w) o os rest made e (ruled ∙ h) (subst (λ (f : ℕ). ltb f (chartSize (w .notes + length (made .notes))) ≡ true) z t) (a .nss)
+          ∙ walk-full (givenFacts points g) (g .columns) (length entry) i (walkOf w) o os rest made e (ruled ∙ h) (subst (λ (f : ℕ). ltb f (chartSize (w .notes + length (made .notes))) ≡ true) z t) (a .nss)
           ∙ ap (λ (x : ℕ). refused (stop i x) e) (sym k)
 
       pub at-next : (exit : List ℕ) (x : Walk) (next : ℕ) (e : Draws) → length chart ≡ length entry → Next chart exit g c w o rest x e
-          → next ≡ objectEnd part here → next ≤ here + longest → At bytes part entry exit g start count d x next e (i + 1)
+          → next ≡ objectEnd part here → next ≤ here + longest → At points part entry exit g start count d x next e (i + 1)
       unfolding walkOf walkAfter afterObject
       at-next exit x next e z k at far =
           let ns = k .made .notes in
@@ -156,10 +155,10 @@ module _ (bytes part entry : List ℕ) (g : Song) (start count : ℕ) (d : Draws
             nss = a .nss ++ ns ∷ [];
             passed = omega arith;
             says =
-                ap (λ (j : ℕ). before (a .nss ++ ns ∷ []) (onWalk (Convert.walk (songOf bytes) (g .difficulty) (g .columns) (length entry) j (walkOf x) (objects part next (count - (i + 1)))) e)) (add-one i)
-                ∙ ap (λ (p : ℕ). before (a .nss ++ ns ∷ []) (onWalk (Convert.walk (songOf bytes) (g .difficulty) (g .columns) (length entry) (suc i) (walkOf x) (objects part p (count - (i + 1)))) e)) at
-                ∙ ap (λ (y : Convert.Walk). before (a .nss ++ ns ∷ []) (onWalk (Convert.walk (songOf bytes) (g .difficulty) (g .columns) (length entry) (suc i) y os) e)) (k .after ∙ ap (λ (f : Facts). afterObject f o (densityAt w o) (k .made) (walkOf w)) F)
-                ∙ sym (walk-made (songOf bytes) (g .difficulty) (g .columns) (length entry) i (walkOf w) o os rest (k .made) e (ruled ∙ k .says) room (a .nss))
+                ap (λ (j : ℕ). before (a .nss ++ ns ∷ []) (onWalk (Convert.walk (givenFacts points g) (g .columns) (length entry) j (walkOf x) (objects part next (count - (i + 1)))) e)) (add-one i)
+                ∙ ap (λ (p : ℕ). before (a .nss ++ ns ∷ []) (onWalk (Convert.walk (givenFacts points g) (g .columns) (length entry) (suc i) (walkOf x) (objects part p (count - (i + 1)))) e)) at
+                ∙ ap (λ (y : Convert.Walk). before (a .nss ++ ns ∷ []) (onWalk (Convert.walk (givenFacts points g) (g .columns) (length entry) (suc i) y os) e)) (k .after ∙ ap (λ (f : Facts). afterObject f o (densityAt w o) (k .made) (walkOf w)) F)
+                ∙ sym (walk-made (givenFacts points g) (g .columns) (length entry) i (walkOf w) o os rest (k .made) e (ruled ∙ k .says) room (a .nss))
                 ∙ from-here;
             written =
                 k .written
@@ -176,8 +175,8 @@ module _ (bytes part entry : List ℕ) (g : Song) (start count : ℕ) (d : Draws
             near = omega (arith, far, a .near);
           }
 
-  pub at-end : (chart : List ℕ) (w : Walk) (here : ℕ) (rest : Draws) (i : ℕ) → count ≤ i → count ≤ mostEntries → At bytes part entry chart g start count d w here rest i
-      → Written (rule bytes part g (length entry) start count d) entry chart (w .notes) rest
+  pub at-end : (chart : List ℕ) (w : Walk) (here : ℕ) (rest : Draws) (i : ℕ) → count ≤ i → count ≤ mostEntries → At points part entry chart g start count d w here rest i
+      → Written (rule points part g (length entry) start count d) entry chart (w .notes) rest
   unfolding objects entries
   at-end chart w here rest i h l a =
       let none : count - i ≡ 0 = omega (arith, a .passed) in
@@ -185,8 +184,8 @@ module _ (bytes part entry : List ℕ) (g : Song) (start count : ℕ) (d : Draws
         nss = a .nss;
         says =
             sym (a .says)
-            ∙ ap (λ (k : ℕ). before (a .nss) (onWalk (Convert.walk (songOf bytes) (g .difficulty) (g .columns) (length entry) i (walkOf w) (objects part here k)) rest)) none
-            ∙ walk-none (songOf bytes) (g .difficulty) (g .columns) (length entry) i (walkOf w) (a .nss) rest;
+            ∙ ap (λ (k : ℕ). before (a .nss) (onWalk (Convert.walk (givenFacts points g) (g .columns) (length entry) i (walkOf w) (objects part here k)) rest)) none
+            ∙ walk-none (givenFacts points g) (g .columns) (length entry) i (walkOf w) (a .nss) rest;
         written = a .written;
         number = a .number;
         few = omega (arith, a .few, a .passed);
@@ -194,10 +193,10 @@ module _ (bytes part entry : List ℕ) (g : Song) (start count : ℕ) (d : Draws
       }
 
 -- the facts, from the points in force
-pub facts-of : (bytes : List ℕ) (g : Song) (c : InForce) (q : Queue.Density) (o : Object) → OfRecord bytes g → InForceAt bytes g (o .start) c
-    → factsBy g c q ≡ factsAt (songOf bytes) (g .difficulty) q o
+pub facts-of : (points : List ℕ) (g : Song) (c : InForce) (q : Queue.Density) (o : Object) → InForceAt points g (o .start) c
+    → factsBy g c q ≡ factsAt (givenFacts points g) q o
 unfolding factsAt
-facts-of bytes g c q o h f = rw (f .beat, f .velocity, f .kiai, h .multiplier, h .timing, h .difficulty, h .effect)
+facts-of points g c q o f = rw (f .beat, f .velocity, f .kiai)
 
 -- the walk begins with an empty pattern
 pub begun : (columns : ℕ) (w : Walk) → walkOf w ≡ beginning → Held (w .density) → 1 ≤ columns → Sound columns w

@@ -12,10 +12,9 @@ use Rattle.random.specs.Play.{Answer, found, refused, on}
 use Rattle.random.specs.declared.Draws.{Draws}
 use Rattle.model.specs.declared.Object.{Object}
 use Rattle.model.specs.ControlPoint.{beatAt, velocityAt, kiaiAt}
-use Rattle.record.specs.Header.{SmallCounts}
+use Rattle.record.specs.Layout as At
 use Rattle.record.specs.Section.{timingPoints, difficultyPoints, effectPoints}
 use Rattle.record.specs.Object.{objects}
-use Rattle.record.specs.Record.{parse, accepted, songOf, NearPlaces}
 use Rattle.record.specs.Lookup.{Rising}
 use Rattle.record.specs.declared.section.Section.the-variants.{TimingPoints, DifficultyPoints, EffectPoints}
 use Rattle.points.specs.Lasting.{BeatLasts, VelocityLasts, KiaiLasts}
@@ -28,7 +27,7 @@ use Rattle.mania.specs.Chart.{body, inWalkOrder}
 use Rattle.mania.specs.LimitedQueue as Queue
 use Rattle.mania.specs.Made.{Made}
 use Rattle.mania.specs.Object.{object}
-use Rattle.mania.specs.Convert.{walkAfter, afterObject, beginning, walk}
+use Rattle.mania.specs.Convert.{SongFacts, walkAfter, afterObject, beginning, walk}
 use Rattle.mania.specs.Convert as Convert
 use Rattle.mania.specs.Walked.{Stop, stop, onWalk}
 use Rattle.density.specs.Queued.{Held, queued}
@@ -45,32 +44,39 @@ use Rattle.walk.specs.declared.WalkEnd.{WalkEnd}
 use Rattle.walk.specs.declared.WalkEnd.the-variants as E
 use Rattle.walk.specs.Kept.{walkOf}
 
--- the struct is of the song of an accepted record
-pub record OfRecord (bytes : List ℕ) (g : Song) : Type 0 where
-  pub parsed : parse bytes ≡ accepted (songOf bytes)
+-- the song's facts: its numbers, and its points, read from the part that starts with the first timing point
+abbrev pub givenFacts : (points : List ℕ) → Song → SongFacts
+givenFacts points g =
+    record {
+      difficulty = g .difficulty;
+      multiplier = g .multiplier;
+      timingPoints = timingPoints points 0 (g .points .timing);
+      difficultyPoints = difficultyPoints points (At.difficultyPoints (g .points .timing)) (g .points .difficulty);
+      effectPoints = effectPoints points (At.effectPoints (g .points .timing) (g .points .difficulty)) (g .points .effect);
+    }
+
+-- What the walk asks: a column count of document 01, and lists of points that a record can have, in order. It asks nothing of the difficulty.
+pub record Given (points : List ℕ) (g : Song) : Type 0 where
   pub low : 1 ≤ g .columns
   pub high : g .columns ≤ 9
-  pub multiplier : g .multiplier ≡ songOf bytes .settings .multiplier
-  pub small : SmallCounts (g .counts)
-  pub near : NearPlaces (g .places)
-  pub timing : songOf bytes .timingPoints ≡ timingPoints bytes (g .places .timing) (g .counts .timing)
-  pub difficulty : songOf bytes .difficultyPoints ≡ difficultyPoints bytes (g .places .difficulty) (g .counts .difficulty)
-  pub effect : songOf bytes .effectPoints ≡ effectPoints bytes (g .places .effect) (g .counts .effect)
-  pub timing-rises : Rising TimingPoints bytes (g .places .timing) (g .counts .timing)
-  pub difficulty-rises : Rising DifficultyPoints bytes (g .places .difficulty) (g .counts .difficulty)
-  pub effect-rises : Rising EffectPoints bytes (g .places .effect) (g .counts .effect)
+  pub timing-le : g .points .timing ≤ mostEntries
+  pub difficulty-le : g .points .difficulty ≤ mostEntries
+  pub effect-le : g .points .effect ≤ mostEntries
+  pub timing-rises : Rising TimingPoints points 0 (g .points .timing)
+  pub difficulty-rises : Rising DifficultyPoints points (At.difficultyPoints (g .points .timing)) (g .points .difficulty)
+  pub effect-rises : Rising EffectPoints points (At.effectPoints (g .points .timing) (g .points .difficulty)) (g .points .effect)
 
 -- the values are those of the song's points between their times
-pub record InForceOf (bytes : List ℕ) (g : Song) (c : InForce) : Type 0 where
-  pub beat : BeatLasts bytes (g .places .timing) (g .counts .timing) (c .beat)
-  pub velocity : VelocityLasts bytes (g .places .difficulty) (g .counts .difficulty) (c .velocity)
-  pub kiai : KiaiLasts bytes (g .places .effect) (g .counts .effect) (c .kiai)
+pub record InForceOf (points : List ℕ) (g : Song) (c : InForce) : Type 0 where
+  pub beat : BeatLasts points 0 (g .points .timing) (c .beat)
+  pub velocity : VelocityLasts points (At.difficultyPoints (g .points .timing)) (g .points .difficulty) (c .velocity)
+  pub kiai : KiaiLasts points (At.effectPoints (g .points .timing) (g .points .difficulty)) (g .points .effect) (c .kiai)
 
 -- and at the time t
-pub record InForceAt (bytes : List ℕ) (g : Song) (t : Float) (c : InForce) : Type 0 where
-  pub beat : c .beat .value ≡ beatAt (timingPoints bytes (g .places .timing) (g .counts .timing)) t
-  pub velocity : c .velocity .value ≡ velocityAt (difficultyPoints bytes (g .places .difficulty) (g .counts .difficulty)) t
-  pub kiai : c .kiai .value ≡ kiaiAt (effectPoints bytes (g .places .effect) (g .counts .effect)) t
+pub record InForceAt (points : List ℕ) (g : Song) (t : Float) (c : InForce) : Type 0 where
+  pub beat : c .beat .value ≡ beatAt (givenFacts points g .timingPoints) t
+  pub velocity : c .velocity .value ≡ velocityAt (givenFacts points g .difficultyPoints) t
+  pub kiai : c .kiai .value ≡ kiaiAt (givenFacts points g .effectPoints) t
 
 -- the facts in force at an object that meets a density
 abbrev pub factsBy : Song → InForce → Queue.Density → Facts
@@ -150,8 +156,8 @@ abbrev pub Steps : (entry exit : List ℕ) → Song → InForce → Walk → Obj
 Steps entry exit g c w o d r = StepsBy entry exit g c w o d (r .refused) r
 
 -- the rule of a walk over the objects of the part
-abbrev pub rule : (bytes part : List ℕ) → Song → ℕ → ℕ → ℕ → Draws → Answer Stop (List (List Note))
-rule bytes part g room at count d = onWalk (walk (songOf bytes) (g .difficulty) (g .columns) room 0 beginning (objects part at count)) d
+abbrev pub rule : (points part : List ℕ) → Song → ℕ → ℕ → ℕ → Draws → Answer Stop (List (List Note))
+rule points part g room at count d = onWalk (walk (givenFacts points g) (g .columns) room 0 beginning (objects part at count)) d
 
 -- all notes of a walk stand in walk order from byte 8 on; `walked` is what its rule comes to
 pub record Written (walked : Answer Stop (List (List Note))) (entry exit : List ℕ) (notes : ℕ) (e : Draws) : Type 0 where

@@ -14,7 +14,7 @@ ghost use Rattle.mania.specs.Range.{InRange};
 ghost use Rattle.density.specs.Queued.{Held, queued};
 ghost use Rattle.walk.specs.declared.Song.{Song};
 ghost use Rattle.walk.specs.Kept.{walkOf};
-ghost use Rattle.walk.specs.Steps.{OfRecord, InForceOf, InForceAt, Meets, Keeps, Finishes, Sound, Steps, rule, Ends};
+ghost use Rattle.walk.specs.Steps.{Given, InForceOf, InForceAt, Meets, Keeps, Finishes, Sound, Steps, rule, Ends};
 use chart::layout::HEADER_SIZE;
 use chart::layout::NOTE_SIZE;
 use density::Density;
@@ -38,8 +38,7 @@ use points::difficulty_point_at;
 use points::effect_point_at;
 use points::timing_point_at;
 use random::Draws;
-use record::header::Counts;
-use record::header::Places;
+use record::layout::ENTRY;
 use record_object::read_object;
 use rules::numbers;
 
@@ -181,13 +180,19 @@ fn after_object(
 
 // ---- an object of the walk
 
-// What the walk takes of a song beside its bytes: the column count, the conversion difficulty, the multiplier, and where its points are.
+// How many points each list has. The lists follow one another, from the first bit of the part that the walk receives for them.
+pub struct PointCounts {
+    pub timing: usize,
+    pub difficulty: usize,
+    pub effect: usize,
+}
+
+// The numbers that the walk takes of a song. Nothing is asked of the difficulty: it may be any that the single-object entry allows.
 pub struct Song {
     pub columns: u8,
     pub difficulty: f64,
     pub multiplier: f64,
-    pub counts: Counts,
-    pub places: Places,
+    pub points: PointCounts,
 }
 
 // The values of the points in force.
@@ -199,7 +204,7 @@ pub struct InForce {
 
 // What the walk begins with: values that are in force at no time.
 fn none_in_force() -> InForce
-    ensures { λ r. ⌜ ((bytes : List ℕ) (g : Song) → InForceOf bytes g r) ⌝ }
+    ensures { λ r. ⌜ ((points : List ℕ) (g : Song) → InForceOf points g r) ⌝ }
 {
     let passed = Passed {
         number: 0,
@@ -218,18 +223,19 @@ fn none_in_force() -> InForce
 }
 
 // The values at the time t, after those at another time: each is looked for only where it has ended.
-fn in_force_at(bytes: &[u8], g: Song, c: InForce, t: f64) -> InForce
-    requires { ⌜ OfRecord (now bytes) g × InForceOf (now bytes) g c ⌝ }
-    ensures { λ r. ⌜ InForceOf (now (bytes .entry)) g r × InForceAt (now (bytes .entry)) g t r ⌝ }
+fn in_force_at(points: &[u8], g: Song, c: InForce, t: f64) -> InForce
+    requires { ⌜ Given (now points) g × InForceOf (now points) g c ⌝ }
+    ensures { λ r. ⌜ InForceOf (now (points .entry)) g r × InForceAt (now (points .entry)) g t r ⌝ }
 {
-    let n = g.counts;
-    let at = g.places;
+    let n = g.points;
+    let difficulty = ENTRY * n.timing;
+    let effect = difficulty + ENTRY * n.difficulty;
     let b = c.beat;
     let v = c.velocity;
     let k = c.kiai;
-    let beat = timing_point_at(bytes, at.timing, n.timing, b, t);
-    let velocity = difficulty_point_at(bytes, at.difficulty, n.difficulty, v, t);
-    let kiai = effect_point_at(bytes, at.effect, n.effect, k, t);
+    let beat = timing_point_at(points, 0, n.timing, b, t);
+    let velocity = difficulty_point_at(points, difficulty, n.difficulty, v, t);
+    let kiai = effect_point_at(points, effect, n.effect, k, t);
     InForce {
         beat,
         velocity,
@@ -382,9 +388,9 @@ fn beginning() -> Walk
     }
 }
 
-// The walk over `count` objects from bit `at` of the part of the record that has them.
+// The walk over `count` objects from bit `at` of `part` on; `points` is the part of the record that starts with the first timing point.
 pub fn walk_objects(
-    bytes: &[u8],
+    points: &[u8],
     part: &[u8],
     chart: &mut [u8],
     words: &mut [u64],
@@ -394,8 +400,8 @@ pub fn walk_objects(
     count: u32,
     d: Draws,
 ) -> WalkEnd
-    requires { ⌜ OfRecord (now bytes) g × Each InRange (objects (now part) at count) × (at ≤ 7) × (count ≤ mostEntries) × (8 ≤ length (now chart)) × (mostNotes ≤ length (now words)) × (mostNotes ≤ length (now spare)) ⌝ }
-    ensures { λ r. ⌜ Ends (rule (now (bytes .entry)) (now (part .entry)) g (length (now (chart .entry))) at count d) (now (chart .entry)) (now (chart .exit)) r ⌝ }
+    requires { ⌜ Given (now points) g × Each InRange (objects (now part) at count) × (at ≤ 7) × (count ≤ mostEntries) × (8 ≤ length (now chart)) × (mostNotes ≤ length (now words)) × (mostNotes ≤ length (now spare)) ⌝ }
+    ensures { λ r. ⌜ Ends (rule (now (points .entry)) (now (part .entry)) g (length (now (chart .entry))) at count d) (now (chart .entry)) (now (chart .exit)) r ⌝ }
 {
     let mut w = beginning();
     let mut c = none_in_force();
@@ -405,7 +411,7 @@ pub fn walk_objects(
     while i < count {
         let read = read_object(part, here);
         let o = read.object;
-        c = in_force_at(bytes, g, c, o.start);
+        c = in_force_at(points, g, c, o.start);
         let s = convert_object(chart, words, spare, g, c, w, o, rest);
         let e = s.draws;
         if s.refused {

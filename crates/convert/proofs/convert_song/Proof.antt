@@ -10,10 +10,11 @@ use Rattle.random.specs.Play.{refused, tallied}
 use Rattle.record.specs.Record.{songOf}
 use Rattle.mania.specs.Convert.{seed}
 use Rattle.mania.specs.Walked.{stop}
+use Rattle.walk.specs.declared.Song.{Song}
 use Rattle.walk.specs.declared.WalkEnd.{WalkEnd}
 use Rattle.walk.specs.Steps.{Written, Ends}
 use Rattle.convert.specs.Ends.{songRule}
-use Rattle.convert.proofs.Songs.{settings-accepted}
+use Rattle.convert.proofs.Songs.{settings-accepted, deck}
 use Rattle.convert.proofs.Jobs.{only-length, short, stopped-job, found-left, refused-left, made-job}
 use borrow.Author.Needs.{needs}
 use Rattle.convert.proofs.convert_song.Statement.{statement}
@@ -86,8 +87,9 @@ sub-finish c =
 finish-requires : tie.Need-finish-requires
 finish-requires c κs =
     let k = c .before .before .before .before in
-    let high = k .before .before .before .before .before .before .before .before .before .song-of .ensures .song .high in
-    (omega (arith, high), omega (arith, made k .room))
+    let s = k .before .before .before .before .before .before .before .before .before .before .before .before .before in
+    let columns = ap (λ (g : Song). g .columns) (k .before .before .before .before .before .before .before .before .before .song-of .ensures) in
+    (omega (arith, columns, deck (s .args .bytes .now) (s .args .m) (s .pre) .1), omega (arith, made k .room))
 
 enum-known-n : tie.Need-enum-known-n
 enum-known-n c = search needs
@@ -110,7 +112,7 @@ returns-2 c =
     let k = c .before .before .before .before .before .before .before in
     let s = k .before .before .before .before .before .before .before .before .before .before .before .before .before in
     made-job (s .args .bytes .now) (s .args .chart .now) (s .args .allowance) (s .pre .parsed) (omega (arith, k .before .before .before .before .before .before .before .before .before .before .if1 .left)) (k .before .before .before .before .walk-part .last .1 .1 .0) (k .notes .given .0 .0) (k .notes .given .0 .1 .0)
-    (made k) (k .before .before .before .before .before .before .before .before .before .song-of .result .columns) (f .result) (f .last .0) (k .before .before .before .before .before .before .before .before .before .song-of .ensures .columns) (f .ensures .0) (f .ensures .1)
+    (made k) (k .before .before .before .before .before .before .before .before .before .song-of .result .columns) (f .result) (f .last .0) (ap (λ (g : Song). g .columns) (k .before .before .before .before .before .before .before .before .before .song-of .ensures)) (f .ensures .0) (f .ensures .1)
 
 same-length-3 : tie.Need-same-length-3
 same-length-3 c = search needs

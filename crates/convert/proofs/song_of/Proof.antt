@@ -1,7 +1,5 @@
 -- `convert::song_of` meets its contract: what the check of the record knows of its song. Assumes nothing.
-use mathlib.Core.Path.{refl, ap}
 use native.Mathlib.Omega.{arith}
-use Rattle.model.specs.declared.Settings.{Settings}
 use Rattle.record.specs.Record.{songOf}
 use Rattle.convert.proofs.Songs.{long-le, columns-are, difficulty-is}
 use borrow.Author.Needs.{needs}
@@ -13,8 +11,8 @@ cast-objects c = search needs
 
 cast-long : tie.Need-cast-long
 cast-long c =
-    let k = c .before .before .before .before .before .before .pre in
-    record { fits = omega (arith, k .long, long-le (songOf (c .before .before .before .before .before .before .args .bytes .now) .objects), k .number, k .small .objects-le) }
+    let k = c .before .before .before .before .before .pre in
+    record { fits = omega (arith, k .long, long-le (songOf (c .before .before .before .before .before .args .bytes .now) .objects), k .number, k .small .objects-le) }
 
 total-break-time-requires : tie.Need-total-break-time-requires
 total-break-time-requires c κs = search needs
@@ -27,31 +25,11 @@ conversion-difficulty-requires c κs = search needs
 
 returns : tie.Need-returns
 returns c =
-    let s = c .before .before .before .before .before .before .before .before .before in
+    let s = c .before .before .before .before .before .before .before .before in
     let k = s .pre in
     let bytes = s .args .bytes .now in
     let columns = columns-are bytes (s .args .m) k (c .before .columns-of .result) (c .before .columns-of .ensures) in
-    record {
-      song =
-          record {
-            parsed = k .parsed;
-            low = columns .1;
-            high = columns .2;
-            multiplier = ap (λ (x : Settings). x .multiplier) (k .settings);
-            small = k .small;
-            near = k .near;
-            timing = k .timing;
-            difficulty = k .difficulty;
-            effect = k .effect;
-            timing-rises = k .timing-rises;
-            difficulty-rises = k .difficulty-rises;
-            effect-rises = k .effect-rises;
-          };
-      columns = columns .0;
-      difficulty = difficulty-is bytes (s .args .m) k _ _ (c .before .before .total-break-time .ensures) (c .conversion-difficulty .ensures);
-      counts = refl;
-      places = refl;
-    }
+    rw (columns, difficulty-is bytes (s .args .m) k _ _ (c .before .before .total-break-time .ensures) (c .conversion-difficulty .ensures), k .settings)
 
 pub song-of-spec : {M : Type 1} → statement M
 song-of-spec =

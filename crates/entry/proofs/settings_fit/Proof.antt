@@ -1,6 +1,6 @@
 -- `entry::settings_fit` meets its contract, by those of the range tests. Assumes nothing.
 use lib.Ieee.{round, ofBits}
-use Rattle.mania.specs.Single.{settingsFit}
+use Rattle.mania.specs.Single.{settingsFit, allowedDifficulty}
 use borrow.Author.Needs.{needs}
 use Rattle.entry.proofs.settings_fit.Statement.{statement}
 use Rattle.entry.proofs.settings_fit.Tie as tie
@@ -12,7 +12,7 @@ is-finite-requires : tie.Need-is-finite-requires
 is-finite-requires c κs = search needs
 
 returns : tie.Need-returns
-unfolding settingsFit round ofBits
+unfolding settingsFit allowedDifficulty round ofBits
 returns c = rw (c .before .before .in-range .ensures, c .before .is-finite .ensures)
 
 pub settings-fit-spec : {M : Type 1} → statement M

@@ -6,7 +6,6 @@ use native.Mathlib.Nat.{zero-add, zero-max}
 use mathlib.Core.Bool.{Bool, true, false}
 use mathlib.Core.List.{List, [], _∷_, _++_, append-assoc, append-nil}
 use lib.Dec.{ltb}
-use lib.Ieee.{Float}
 use lib.ListN.{length}
 use Rattle.rules.specs.Numbers as Numbers
 use Rattle.rules.specs.Rule.{give, label, _>>=_, ended}
@@ -28,7 +27,7 @@ use Rattle.mania.specs.Made.{Made}
 use Rattle.mania.specs.LimitedQueue.{Density}
 use Rattle.mania.specs.Object.{object}
 use Rattle.mania.specs.Chart.{written}
-use Rattle.mania.specs.Convert.{Walk, at, seed, columnsOf, meets, factsAt, afterObject, objectIn, walk, convert}
+use Rattle.mania.specs.Convert.{Walk, SongFacts, at, seed, columnsOf, meets, factsAt, afterObject, objectIn, walk, convert}
 use Rattle.mania.specs.Walked.{Stop, stop, spentAt, refusedAt, onWalk}
 use Rattle.mania.specs.Job.{Job, ending, refusing, under, ledgerUnder, job}
 
@@ -46,9 +45,9 @@ unfoldable pub before : List (List Note) → Answer Stop (List (List Note)) → 
 before nss (found mss d) = found (nss ++ mss) d
 before nss (refused r d) = refused r d
 
-module _ (s : Song) (difficulty : Float) (columns room i : ℕ) (w : Walk) where
+module _ (s : SongFacts) (columns room i : ℕ) (w : Walk) where
   -- no object is left
-  pub walk-none : (nss : List (List Note)) (d : Draws) → before nss (onWalk (walk s difficulty columns room i w []) d) ≡ found nss d
+  pub walk-none : (nss : List (List Note)) (d : Draws) → before nss (onWalk (walk s columns room i w []) d) ≡ found nss d
   unfolding before walk play
   walk-none nss d = ap (λ (x : List (List Note)). found x d) (append-nil nss)
 
@@ -58,7 +57,7 @@ module _ (s : Song) (difficulty : Float) (columns room i : ℕ) (w : Walk) where
     dens = meets (o .kind) (o .start) (w .density)
 
     abbrev facts : Facts
-    facts = factsAt s difficulty dens o
+    facts = factsAt s dens o
 
     -- whether the notes made so far, and so many more, are too long for the buffer
     abbrev tooLong : Made → Bool
@@ -77,7 +76,7 @@ module _ (s : Song) (difficulty : Float) (columns room i : ℕ) (w : Walk) where
     no-object r e h = refused-bind (object facts (w .prev) columns o) _ d r e h
 
     stopped : (r : ℕ) (e : Draws) → on (objectIn columns room facts w o) d ≡ refused r e → (nss : List (List Note))
-        → before nss (onWalk (walk s difficulty columns room i w (o ∷ os)) d) ≡ refused (stop i r) e
+        → before nss (onWalk (walk s columns room i w (o ∷ os)) d) ≡ refused (stop i r) e
     unfolding before walk
     stopped r e h nss =
         let m = objectIn columns room facts w o in
@@ -85,12 +84,12 @@ module _ (s : Song) (difficulty : Float) (columns room i : ℕ) (w : Walk) where
 
     -- the object is refused: so is the walk, at its index
     pub walk-refused : (r : ℕ) (e : Draws) → on (object facts (w .prev) columns o) d ≡ refused r e → (nss : List (List Note))
-        → before nss (onWalk (walk s difficulty columns room i w (o ∷ os)) d) ≡ refused (stop i r) e
+        → before nss (onWalk (walk s columns room i w (o ∷ os)) d) ≡ refused (stop i r) e
     walk-refused r e h nss = stopped r e (no-object r e h) nss
 
     -- its notes are too long for the buffer: 11
     pub walk-full : (made : Made) (e : Draws) → on (object facts (w .prev) columns o) d ≡ found made e → tooLong made ≡ true → (nss : List (List Note))
-        → before nss (onWalk (walk s difficulty columns room i w (o ∷ os)) d) ≡ refused (stop i Numbers.chartTooShort) e
+        → before nss (onWalk (walk s columns room i w (o ∷ os)) d) ≡ refused (stop i Numbers.chartTooShort) e
     walk-full made e h f nss = stopped 11 e (out-of-room made e h f) nss
 
     rest-before : (nss : List (List Note)) (ns : List Note) (a : Answer Stop (List (List Note)))
@@ -101,12 +100,12 @@ module _ (s : Song) (difficulty : Float) (columns room i : ℕ) (w : Walk) where
 
     -- it made its notes: the walk goes on after it
     pub walk-made : (made : Made) (e : Draws) → on (object facts (w .prev) columns o) d ≡ found made e → tooLong made ≡ false → (nss : List (List Note))
-        → before nss (onWalk (walk s difficulty columns room i w (o ∷ os)) d)
-        ≡ before (nss ++ made .notes ∷ []) (onWalk (walk s difficulty columns room (suc i) (afterObject facts o dens made w) os) e)
+        → before nss (onWalk (walk s columns room i w (o ∷ os)) d)
+        ≡ before (nss ++ made .notes ∷ []) (onWalk (walk s columns room (suc i) (afterObject facts o dens made w) os) e)
     unfolding walk
     walk-made made e h f nss =
         let m = objectIn columns room facts w o in
-        let next = walk s difficulty columns room (suc i) (afterObject facts o dens made w) os in
+        let next = walk s columns room (suc i) (afterObject facts o dens made w) os in
         ap (before nss) (Play.found-bind spentAt refusedAt (label (λ p. i) (at i) m) _ d made e (found-at i m d made e (in-room made e h f)))
         ∙ ap (before nss) (bind-on spentAt refusedAt (λ rest. give (made .notes ∷ rest)) next e)
         ∙ rest-before nss (made .notes) (onWalk next e)

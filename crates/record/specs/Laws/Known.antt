@@ -23,7 +23,7 @@ use Rattle.record.specs.Record.{placesOf, NearPlaces, songOf, Parsed, ac
 use Rattle.record.specs.Laws.Row.{then-none}
 use Rattle.record.specs.Laws.Counts.{small-counts, near-places}
 use Rattle.record.specs.Laws.Songs.{counts-in, summary-of}
-use Rattle.record.specs.Laws.Parts.{objects-part}
+use Rattle.record.specs.Laws.Parts.{timing-points-part, difficulty-points-part, effect-points-part, rising-part, objects-part}
 use Rattle.record.specs.Laws.Accepted.{accepted-none, Parts, parts, first-object}
 use Rattle.record.specs.Laws.Ranges.{above, not-breaks-timing, not-breaks-difficulty, not-breaks-effect}
 
@@ -66,6 +66,15 @@ accepted-rising k s p n x h i l =
 
 -- ---- what is known
 
+-- the song's points, one list after another from the first bit of the part on
+pub record PointsAt (part : List ℕ) (song : Song) (n : Counts) : Type 0 where
+  pub timing : song .timingPoints ≡ timingPoints part 0 (n .timing)
+  pub difficulty : song .difficultyPoints ≡ difficultyPoints part (At.difficultyPoints (n .timing)) (n .difficulty)
+  pub effect : song .effectPoints ≡ effectPoints part (At.effectPoints (n .timing) (n .difficulty)) (n .effect)
+  pub timing-rises : Rising TimingPoints part 0 (n .timing)
+  pub difficulty-rises : Rising DifficultyPoints part (At.difficultyPoints (n .timing)) (n .difficulty)
+  pub effect-rises : Rising EffectPoints part (At.effectPoints (n .timing) (n .difficulty)) (n .effect)
+
 pub record Known (s : List ℕ) (m : Summary) : Type 0 where
   pub parsed : parse s ≡ accepted (songOf s)
   pub summary : m ≡ summaryOf (songOf s)
@@ -78,16 +87,13 @@ pub record Known (s : List ℕ) (m : Summary) : Type 0 where
   pub near : NearPlaces (m .places)
   pub number : m .counts .objects ≡ length (songOf s .objects)
   pub breaks : songOf s .breaks ≡ breaks s At.breaks (m .counts .breaks)
-  pub timing : songOf s .timingPoints ≡ timingPoints s (m .places .timing) (m .counts .timing)
-  pub difficulty : songOf s .difficultyPoints ≡ difficultyPoints s (m .places .difficulty) (m .counts .difficulty)
-  pub effect : songOf s .effectPoints ≡ effectPoints s (m .places .effect) (m .counts .effect)
-  pub timing-rises : Rising TimingPoints s (m .places .timing) (m .counts .timing)
-  pub difficulty-rises : Rising DifficultyPoints s (m .places .difficulty) (m .counts .difficulty)
-  pub effect-rises : Rising EffectPoints s (m .places .effect) (m .counts .effect)
+  -- the song's points are those of the part that starts at the byte of the first timing point
+  pub points : PointsAt (drop (m .places .timing / 8) s) (songOf s) (m .counts)
   -- the song's objects are those of the part that starts at the byte of the first object's first bit
   pub objects : songOf s .objects ≡ objects (drop (m .places .objects / 8) s) (m .places .objects % 8) (m .counts .objects)
-  -- and where there is an object, that byte is there
-  pub part : 0 < m .counts .objects → m .places .objects / 8 < length s
+  -- and where there is an object, both bytes are there
+  pub points-part : 0 < m .counts .objects → m .places .timing / 8 < length s
+  pub objects-part : 0 < m .counts .objects → m .places .objects / 8 < length s
 
 byte-of : (p n : ℕ) → p + 6 ≤ 8 * n → p / 8 < n
 byte-of p n h = omega arith
@@ -96,6 +102,34 @@ objects-of : (s : List ℕ) (p n : ℕ) → objects s p n ≡ objects (drop (p /
 objects-of s p n =
     let e : 8 * (p / 8) + p % 8 ≡ p = omega arith in
     rw (objects-part s (p / 8) (p % 8) n, e)
+
+-- the timing points start at the first bit of a byte
+byte-place : (n : Counts) (at p : ℕ) → at ≡ placesOf n .timing + p → at ≡ 8 * (placesOf n .timing / 8) + p
+unfolding placesOf
+byte-place n at p e = omega arith
+
+points-at : (s : List ℕ) → Parts s → PointsAt (drop (placesOf (countsOf s) .timing / 8) s) (songOf s) (countsOf s)
+unfolding songOf placesOf
+points-at s h =
+    let n = countsOf s in
+    let at = placesOf n in
+    let k = at .timing / 8 in
+    let t : at .timing ≡ 8 * k + 0 = byte-place n _ 0 (omega arith) in
+    let d : at .difficulty ≡ 8 * k + At.difficultyPoints (n .timing) = byte-place n _ _ (omega arith) in
+    let f : at .effect ≡ 8 * k + At.effectPoints (n .timing) (n .difficulty) = byte-place n _ _ (omega arith) in
+    record {
+      timing = ap (λ (p : ℕ). timingPoints s p (n .timing)) t ∙ sym (timing-points-part s k 0 (n .timing));
+      difficulty = ap (λ (p : ℕ). difficultyPoints s p (n .difficulty)) d ∙ sym (difficulty-points-part s k _ (n .difficulty));
+      effect = ap (λ (p : ℕ). effectPoints s p (n .effect)) f ∙ sym (effect-points-part s k _ (n .effect));
+      timing-rises = rising-part s k TimingPoints 0 (n .timing) (subst (λ (p : ℕ). Rising TimingPoints s p (n .timing)) t (accepted-rising TimingPoints s _ _ not-breaks-timing (h .timing)));
+      difficulty-rises = rising-part s k DifficultyPoints _ (n .difficulty) (subst (λ (p : ℕ). Rising DifficultyPoints s p (n .difficulty)) d (accepted-rising DifficultyPoints s _ _ not-breaks-difficulty (h .difficulty)));
+      effect-rises = rising-part s k EffectPoints _ (n .effect) (subst (λ (p : ℕ). Rising EffectPoints s p (n .effect)) f (accepted-rising EffectPoints s _ _ not-breaks-effect (h .effect)));
+    }
+
+-- the timing points do not start after the objects
+points-before : (n : Counts) (k : ℕ) → placesOf n .objects + 6 ≤ 8 * k → placesOf n .timing / 8 < k
+unfolding placesOf
+points-before n k h = omega arith
 
 known-of : (s : List ℕ) → parse s ≡ accepted (songOf s) → Parts s → Known s (summaryOf (songOf s))
 unfolding summaryOf songOf countsIn
@@ -113,14 +147,10 @@ known-of s e h =
       near = near-places (countsOf s) (small-counts s);
       number = ap (λ (n : Counts). n .objects) (sym (counts-in s));
       breaks = refl;
-      timing = refl;
-      difficulty = refl;
-      effect = refl;
-      timing-rises = accepted-rising TimingPoints s _ _ not-breaks-timing (h .timing);
-      difficulty-rises = accepted-rising DifficultyPoints s _ _ not-breaks-difficulty (h .difficulty);
-      effect-rises = accepted-rising EffectPoints s _ _ not-breaks-effect (h .effect);
+      points = points-at s h;
       objects = objects-of s (placesOf (countsOf s) .objects) (countsOf s .objects);
-      part = λ l. byte-of _ _ (first-object s h l);
+      points-part = λ l. points-before (countsOf s) _ (first-object s h l);
+      objects-part = λ l. byte-of _ _ (first-object s h l);
     })
 
 accepted-is : (p : Parsed) (m : Summary) → checkedOf p ≡ Accepted m → (song : Song) → p ≡ accepted song → m ≡ summaryOf song

@@ -1,4 +1,4 @@
--- The objects of a part of the bytes: what starts at bit p of the bytes from byte k on starts at bit 8 * k + p of all the bytes. Assumes nothing.
+-- The points and the objects of a part of the bytes: what starts at bit p of the bytes from byte k on starts at bit 8 * k + p of all the bytes. Assumes nothing.
 use mathlib.Core.Path.{_≡_, refl, ap}
 use Prim.Native.Nat.{ℕ, zero, suc, _+_, _*_}
 use mathlib.Core.List.{List, _∷_}
@@ -6,6 +6,9 @@ use native.Mathlib.Nat.{add-assoc}
 use lib.ListN.{drop}
 use Rattle.bits.specs.Laws.Fields.{bits-part}
 use Rattle.record.specs.Refusal.{f32At, f64At, entries}
+use Rattle.record.specs.declared.section.Section.{Section}
+use Rattle.record.specs.Section.{widthOf, readTimingPoint, readDifficultyPoint, readEffectPoint, timingPoints, difficultyPoints, effectPoints}
+use Rattle.record.specs.Lookup.{Rising}
 use Rattle.record.specs.Object.{nodeBit, sliderEnd, distanceBy, nodeBy, sliderAt, kindBy, kindEnd, startAt, readObject, objectEnd, objects}
 
 module _ (s : List ℕ) (k : ℕ) where
@@ -16,6 +19,44 @@ module _ (s : List ℕ) (k : ℕ) where
   f64-part : (p : ℕ) → f64At (drop k s) p ≡ f64At s (8 * k + p)
   unfolding f64At
   f64-part p = simp bits-part
+
+  -- n entries of one width
+  entries-part : {A : Type 0} (read : List ℕ → ℕ → A) (width : ℕ) → ((p : ℕ) → read (drop k s) p ≡ read s (8 * k + p))
+      → (p n : ℕ) → entries (read (drop k s)) (λ q. q + width) p n ≡ entries (read s) (λ q. q + width) (8 * k + p) n
+  unfolding entries
+  entries-part read width h p zero = refl
+  entries-part read width h p (suc n) = rw (h p, add-assoc) (ap (λ l. read s (8 * k + p) ∷ l) (entries-part read width h (p + width) n))
+
+  timing-part : (p : ℕ) → readTimingPoint (drop k s) p ≡ readTimingPoint s (8 * k + p)
+  unfolding readTimingPoint
+  timing-part p = simp (f64-part, add-assoc)
+
+  difficulty-part : (p : ℕ) → readDifficultyPoint (drop k s) p ≡ readDifficultyPoint s (8 * k + p)
+  unfolding readDifficultyPoint
+  difficulty-part p = simp (f64-part, add-assoc)
+
+  effect-part : (p : ℕ) → readEffectPoint (drop k s) p ≡ readEffectPoint s (8 * k + p)
+  unfolding readEffectPoint
+  effect-part p = simp (bits-part, f64-part, add-assoc)
+
+  pub timing-points-part : (p n : ℕ) → timingPoints (drop k s) p n ≡ timingPoints s (8 * k + p) n
+  unfolding timingPoints
+  timing-points-part p n = entries-part readTimingPoint _ timing-part p n
+
+  pub difficulty-points-part : (p n : ℕ) → difficultyPoints (drop k s) p n ≡ difficultyPoints s (8 * k + p) n
+  unfolding difficultyPoints
+  difficulty-points-part p n = entries-part readDifficultyPoint _ difficulty-part p n
+
+  pub effect-points-part : (p n : ℕ) → effectPoints (drop k s) p n ≡ effectPoints s (8 * k + p) n
+  unfolding effectPoints
+  effect-points-part p n = entries-part readEffectPoint _ effect-part p n
+
+  pub rising-part : (section : Section) (p n : ℕ) → Rising section s (8 * k + p) n → Rising section (drop k s) p n
+  unfolding Rising
+  rising-part section p n h i l =
+      let here = p + widthOf section * i in
+      let next = p + widthOf section * (i + 1) in
+      rw (f64-part here, f64-part next, ← add-assoc (8 * k) p (widthOf section * i), ← add-assoc (8 * k) p (widthOf section * (i + 1))) (h i l)
 
   node-part : (q : ℕ) → 8 * k + nodeBit (drop k s) q ≡ nodeBit s (8 * k + q)
   unfolding nodeBit

@@ -3,7 +3,7 @@ use mathlib.Core.Path.{_∙_}
 use mir.Syntax.{w32}
 use mir.ValLaws.{toZ-ofZ}
 use lib.Ieee.{round, ofBits}
-use Rattle.mania.specs.PatternGenerator.{difficultyOf}
+use Rattle.mania.specs.PatternGenerator.{difficultyBy}
 use borrow.Author.Needs.{needs}
 use Rattle.settings.proofs.conversion_difficulty.Statement.{statement}
 use Rattle.settings.proofs.conversion_difficulty.Tie as tie
@@ -27,7 +27,7 @@ min-requires : tie.Need-min-requires
 min-requires c κs = search needs
 
 returns : tie.Need-returns
-unfolding difficultyOf round ofBits
+unfolding difficultyBy round ofBits
 returns c =
     c .min .ensures
     ∙ rw (c .before .before .before .f32-to-f64-with-nan .ensures, c .before .before .before .before .before .clamp-f32 .ensures, toZ-ofZ w32 (c .before .before .before .before .before .before .drain-time .result) (search needs), c .before .before .before .before .before .before .drain-time .ensures)

@@ -7,20 +7,19 @@ use lib.ListN.{length}
 use Rattle.model.specs.declared.Object.{Object}
 use Rattle.record.specs.declared.objects.ReadObject.{ReadObject}
 use Rattle.record.specs.Object.{readObject, objectEnd, readAt}
-use Rattle.record.specs.Record.{songOf}
 use Rattle.mania.specs.Convert.{factsAt}
 use Rattle.mania.specs.Range.{InRange}
-use Rattle.walk.specs.Steps.{InForceOf, InForceAt, densityAt, factsIn, StepsBy}
+use Rattle.walk.specs.Steps.{givenFacts, InForceOf, InForceAt, densityAt, factsIn, StepsBy}
 use Rattle.walk.proofs.Loop.{At, at-start, in-range, at-refused, at-next, at-end, facts-of, begun}
 use Rattle.walk.proofs.walk_objects.Statement.{statement}
 use Rattle.walk.proofs.walk_objects.Tie as tie
 
 abbrev Inv-loop : tie.InvT-loop
-Inv-loop bytes part chart₀ words₀ spare₀ g at count w₀ c₀ here₀ rest₀ i₀ chart words spare w c here rest i =
-    At bytes part chart₀ chart g at count rest₀ w here rest i × InForceOf bytes g c × (length chart ≡ length chart₀) × (length words ≡ length words₀) × (length spare ≡ length spare₀)
+Inv-loop points part chart₀ words₀ spare₀ g at count w₀ c₀ here₀ rest₀ i₀ chart words spare w c here rest i =
+    At points part chart₀ chart g at count rest₀ w here rest i × InForceOf points g c × (length chart ≡ length chart₀) × (length words ≡ length words₀) × (length spare ≡ length spare₀)
 
 abbrev μ-loop : tie.MeasureT-loop
-μ-loop bytes part chart₀ words₀ spare₀ g at count w₀ c₀ here₀ rest₀ i₀ chart words spare w c here rest i = count - i
+μ-loop points part chart₀ words₀ spare₀ g at count w₀ c₀ here₀ rest₀ i₀ chart words spare w c here rest i = count - i
 
 beginning-requires : tie.Need-beginning-requires Inv-loop μ-loop
 beginning-requires c κs = tt
@@ -33,7 +32,7 @@ loop-holds c =
     let s = c .before .before .before .before .before .before .before in
     let a = s .args in
     let b = c .before .beginning in (
-      at-start (a .bytes .now) (a .part .now) (a .chart .now) (a .g) (a .at) (a .count) (a .d) (b .result) (b .ensures .1)
+      at-start (a .points .now) (a .part .now) (a .chart .now) (a .g) (a .at) (a .count) (a .d) (b .result) (b .ensures .1)
           (begun (a .g .columns) (b .result) (b .ensures .1) (b .ensures .0) (s .pre .0 .low)) (s .pre .2) (s .pre .4) (s .pre .1),
       c .none-in-force .ensures _ _,
       refl,
@@ -65,7 +64,7 @@ convert-object-requires c κs =
       s .pre .0 .low,
       s .pre .0 .high,
       l .inv .0 .sound,
-      subst InRange (sym (object-is r)) (in-range (a .bytes .now) (a .part .now) (a .chart .now) (a .g) (a .at) (a .count) (a .d) (l .chart) (l .w) (l .here) (l .rest) (l .i) (omega arith) (l .inv .0)),
+      subst InRange (sym (object-is r)) (in-range (a .points .now) (a .part .now) (a .chart .now) (a .g) (a .at) (a .count) (a .d) (l .chart) (l .w) (l .here) (l .rest) (l .i) (omega arith) (l .inv .0)),
       omega (arith, l .inv .0 .few, s .pre .3),
       omega (arith, s .pre .5),
       omega (arith, s .pre .6),
@@ -93,18 +92,18 @@ stepped k b e =
 -- the facts that the object met are the song's
 facts-are : (k : tie.After-convert-object Inv-loop μ-loop)
     → factsIn (k .before .before .before .before .before .before .before .before .before .before .before .before .before .before .before .before .args .g) (k .before .before .before .before .in-force-at .result) (k .before .before .before .before .before .before .before .before .loop .w) (readObject (k .before .before .before .before .before .before .before .before .before .before .before .before .before .before .before .before .args .part .now) (k .before .before .before .before .before .before .before .before .loop .here))
-    ≡ factsAt (songOf (k .before .before .before .before .before .before .before .before .before .before .before .before .before .before .before .before .args .bytes .now)) (k .before .before .before .before .before .before .before .before .before .before .before .before .before .before .before .before .args .g .difficulty) (densityAt (k .before .before .before .before .before .before .before .before .loop .w) (readObject (k .before .before .before .before .before .before .before .before .before .before .before .before .before .before .before .before .args .part .now) (k .before .before .before .before .before .before .before .before .loop .here))) (readObject (k .before .before .before .before .before .before .before .before .before .before .before .before .before .before .before .before .args .part .now) (k .before .before .before .before .before .before .before .before .loop .here))
+    ≡ factsAt (givenFacts (k .before .before .before .before .before .before .before .before .before .before .before .before .before .before .before .before .args .points .now) (k .before .before .before .before .before .before .before .before .before .before .before .before .before .before .before .before .args .g)) (densityAt (k .before .before .before .before .before .before .before .before .loop .w) (readObject (k .before .before .before .before .before .before .before .before .before .before .before .before .before .before .before .before .args .part .now) (k .before .before .before .before .before .before .before .before .loop .here))) (readObject (k .before .before .before .before .before .before .before .before .before .before .before .before .before .before .before .before .args .part .now) (k .before .before .before .before .before .before .before .before .loop .here))
 facts-are k =
     let s = k .before .before .before .before .before .before .before .before .before .before .before .before .before .before .before .before in
     let f = k .before .before .before .before .in-force-at in
-    facts-of (s .args .bytes .now) (s .args .g) (f .result) _ _ (s .pre .0) (subst (λ (o : Object). InForceAt (s .args .bytes .now) (s .args .g) (o .start) (f .result)) (object-is (k .before .before .before .before .before .before)) (f .ensures .1))
+    facts-of (s .args .points .now) (s .args .g) (f .result) _ _ (subst (λ (o : Object). InForceAt (s .args .points .now) (s .args .g) (o .start) (f .result)) (object-is (k .before .before .before .before .before .before)) (f .ensures .1))
 
 returns : tie.Need-returns Inv-loop μ-loop
 returns c =
     let k = c .before .before .before .before .before .before .before .before in
     let l = k .before .before .before .before .before .before .before .before .loop in
     let a = k .before .before .before .before .before .before .before .before .before .before .before .before .before .before .before .before .args in
-    at-refused (a .bytes .now) (a .part .now) (a .chart .now) (a .g) (a .at) (a .count) (a .d) (l .chart) (l .w) (l .here) (l .rest) (l .i) (omega arith) (l .inv .0)
+    at-refused (a .points .now) (a .part .now) (a .chart .now) (a .g) (a .at) (a .count) (a .d) (l .chart) (l .w) (l .here) (l .rest) (l .i) (omega arith) (l .inv .0)
     (k .before .before .before .before .in-force-at .result) (facts-are k) (k .convert-object .result .number) (k .convert-object .result .draws) (l .inv .2) (stepped k _ (c .if1 .taken))
 
 add-i : tie.Need-add-i Inv-loop μ-loop
@@ -120,7 +119,7 @@ loop-again c =
     let a = k .before .before .before .before .before .before .before .before .before .before .before .before .before .before .before .before .args in
     let r = k .before .before .before .before .before .before in
     let f = k .before .before .before .before .in-force-at in (
-      at-next (a .bytes .now) (a .part .now) (a .chart .now) (a .g) (a .at) (a .count) (a .d) (l .chart) (l .w) (l .here) (l .rest) (l .i) (omega arith) (l .inv .0)
+      at-next (a .points .now) (a .part .now) (a .chart .now) (a .g) (a .at) (a .count) (a .d) (l .chart) (l .w) (l .here) (l .rest) (l .i) (omega arith) (l .inv .0)
           (f .result) (facts-are k) (k .convert-object .last .0) (k .convert-object .result .walk) (r .read-object .result .next) (k .convert-object .result .draws) (l .inv .2) (stepped k _ (c .before .if1 .left)) (next-is r) (r .read-object .ensures .1),
       f .ensures .0,
       k .convert-object .kept .0 ∙ l .inv .2,
@@ -142,7 +141,7 @@ returns-2 c =
     let l = c .before .loop in
     let s = c .before .before .before .before .before .before .before .before .before in
     let a = s .args in
-    at-end (a .bytes .now) (a .part .now) (a .chart .now) (a .g) (a .at) (a .count) (a .d) (l .chart) (l .w) (l .here) (l .rest) (l .i) (omega arith) (s .pre .3) (l .inv .0)
+    at-end (a .points .now) (a .part .now) (a .chart .now) (a .g) (a .at) (a .count) (a .d) (l .chart) (l .w) (l .here) (l .rest) (l .i) (omega arith) (s .pre .3) (l .inv .0)
 
 pub walk-objects-spec : {M : Type 1} → statement M
 walk-objects-spec =
