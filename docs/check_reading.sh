@@ -1,7 +1,8 @@
 #!/usr/bin/env bash
 # Sees that every file that docs/READING.md names is there, and that each name after a file stands in it; and that docs/REFUSALS.md has a row
 # for each refusal of include/sumopine.h, in that order, and no other; and that the refusals of rules/specs/Numbers.antt and rules/src/numbers.rt have
-# the names and numbers of include/sumopine.h (`fieldNotWhole`, `FIELD_NOT_WHOLE` and `SUMOPINE_FIELD_NOT_WHOLE` are one name).
+# the names and numbers of include/sumopine.h (`fieldNotWhole`, `FIELD_NOT_WHOLE` and `SUMOPINE_FIELD_NOT_WHOLE` are one name); and that the sizes
+# of include/sumopine.h, from which it makes its largest chart, are the code's and the definitions'.
 set -euo pipefail
 cd "$(dirname "$0")/.."
 bad=0
@@ -46,4 +47,21 @@ if [ -z "$numbers" ] || [ "$numbers" != "$rows" ]; then
     echo "REFUSALS.md has rows for" $rows "and sumopine.h refuses by" $numbers
     bad=1
 fi
+# told FILE TEXT: the number after TEXT, which ends its line
+told() { sed -n "s/^.*$2 \([0-9]*\);\{0,1\}$/\1/p" "$1"; }
+# sizes NAME NUMBER..: all are the number of SUMOPINE_NAME
+sizes() {
+    for number in "${@:2}"; do
+        if [ -z "$number" ] || [ "$number" != "$(told include/sumopine.h "SUMOPINE_$1")" ]; then
+            echo "sumopine.h: SUMOPINE_$1 is $(told include/sumopine.h "SUMOPINE_$1"), not $number"
+            bad=1
+        fi
+    done
+}
+layout=crates/chart/src/layout.rt
+limits=crates/model/src/limits.rt
+sizes HEADER_BYTES "$(told $layout 'HEADER_SIZE: usize =')" "$(told crates/chart/specs/Layout.antt 'headerSize =')"
+sizes NOTE_BYTES "$(told $layout 'NOTE_SIZE: usize =')" "$(told crates/chart/specs/Layout.antt 'noteSize =')"
+sizes MOST_OBJECTS "$(told $limits 'MOST_OBJECTS: u32 =')" "$(told crates/model/specs/Limits.antt 'mostEntries =')"
+sizes MOST_NOTES_OF_AN_OBJECT "$(told $limits 'MOST_NOTES: usize =')" "$(told crates/mania/specs/MostNotes.antt 'mostNotes ≡')"
 exit $bad

@@ -128,6 +128,22 @@ static int print_object(void) {
     return !refused;
 }
 
+/* The slider that makes the most notes: 299 repeats of spans of 180 ms, on 4 columns, with a difficulty above 3. One repeat more is refused. */
+static int print_longest(void) {
+    static uint8_t notes[SUMOPINE_LARGEST_OBJECT];
+    for (uint16_t repeats = 299; repeats <= 300; repeats++) {
+        uint32_t x = 0, y = 842502087, z = 3579807591, w = 273326509;
+        uint32_t count, mask, last, stair, draws;
+        uint32_t refusal = sumopine_object(3.5, 1.0, 1000.0, 1.0, 0, 0.0, 0.0, 0.0f, 0.0f, 0, 0, 0, 4, 0.0f, 0.0f, 0.0, 0, SUMOPINE_SLIDER,
+                                           repeats, 1, 18.0, 0, 0, 0.0, 1000, &x, &y, &z, &w, notes, sizeof notes, &count, &mask, &last,
+                                           &stair, &draws);
+        if (refusal != (repeats == 299 ? 0 : SUMOPINE_OBJECT)) return 1;
+        if (count != (repeats == 299 ? SUMOPINE_MOST_NOTES_OF_AN_OBJECT : 0)) return 1;
+    }
+    printf("a slider makes at most %d notes, a chart has at most %d bytes\n", SUMOPINE_MOST_NOTES_OF_AN_OBJECT, SUMOPINE_LARGEST_CHART);
+    return 0;
+}
+
 /* An announced song: od 5.5 and cs 4 to one decimal, 10 objects of which 2 are sliders or spinners; a slider of 100 pixels, to a whole one. */
 static int print_announced(void) {
     uint32_t counts;
@@ -162,5 +178,6 @@ int main(int count, char **words) {
     if (count > 1) return 0;
     if (print_around((size_t)length) != 0) return 1;
     if (print_object() != 0) return 1;
+    if (print_longest() != 0) return 1;
     return print_announced();
 }

@@ -56,7 +56,7 @@ static void one_object(void) {
     static uint8_t notes[2050 * SUMOPINE_NOTE_BYTES];
     uint32_t x = 0, y = 842502087, z = 3579807591, w = 273326509;
     uint32_t count, mask, last, stair, draws;
-    sumopine_object(6.0, 1.0, 1000.0, 1.0, 1, 0.0, 0.0, 0.0f, 0.0f, 0, 0, 0, 9, 0.0f, 0.0f, 1000.0, 4, kind, 1023, 1, 100.0, 1, 4, 300.0, 1000000,
+    sumopine_object(6.0, 1.0, 1000.0, 1.0, 1, 0.0, 0.0, 0.0f, 0.0f, 0, 0, 0, 9, 0.0f, 0.0f, 1000.0, 4, kind, 299, 1, 100.0, 1, 4, 300.0, 1000000,
                     &x, &y, &z, &w, notes, sizeof notes, &count, &mask, &last, &stair, &draws);
 }
 
@@ -64,7 +64,7 @@ static void announced(void) {
     uint64_t earliest, latest;
     uint32_t counts;
     sumopine_column_counts(0.0f, 10.0f, 0.0f, 10.0f, 10, 2, &counts);
-    sumopine_slider_ends(1.0, 1000.0, 1.0, 0.0f, 0.0f, 1000.0, 0, 1023, 0, 0, 99.5, 100.5, &earliest, &latest);
+    sumopine_slider_ends(1.0, 1000.0, 1.0, 0.0f, 0.0f, 1000.0, 0, 299, 0, 0, 99.5, 100.5, &earliest, &latest);
 }
 
 static size_t larger(size_t a, size_t b) { return a < b ? b : a; }

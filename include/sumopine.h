@@ -23,6 +23,13 @@ extern "C" {
 #define SUMOPINE_HEADER_BYTES 8
 #define SUMOPINE_NOTE_BYTES 17
 
+/* The most objects of a song, and the most notes of one object: a slider of 299 repeats, two notes in each of its 301 rows. With a chart buffer
+ * of SUMOPINE_LARGEST_CHART bytes, which is 2,465,190 notes, or a notes buffer of SUMOPINE_LARGEST_OBJECT bytes 11 is never returned. */
+#define SUMOPINE_MOST_OBJECTS 4095
+#define SUMOPINE_MOST_NOTES_OF_AN_OBJECT 602
+#define SUMOPINE_LARGEST_OBJECT (SUMOPINE_NOTE_BYTES * SUMOPINE_MOST_NOTES_OF_AN_OBJECT)
+#define SUMOPINE_LARGEST_CHART (SUMOPINE_HEADER_BYTES + SUMOPINE_LARGEST_OBJECT * SUMOPINE_MOST_OBJECTS)
+
 /* Stack that a call takes at most. */
 #define SUMOPINE_STACK_BYTES 65536
 
@@ -129,8 +136,8 @@ enum { SUMOPINE_CIRCLE = 0, SUMOPINE_SLIDER = 1, SUMOPINE_SPINNER = 2, SUMOPINE_
  *
  * The facts:           difficulty, multiplier, beat length, velocity, kiai (a flag) and density.
  * The previous values: time, position, mask and last column of the previous pattern, and its stair, 0 or, for a reverse one, any other.
- * The object:          its position, start, sound and kind; of a slider repeats, distance and first node sound, the last two with a flag,
- *                      0 where there is none; of a spinner or hold its duration. What the kind has no use for may be anything.
+ * The object:          its position, start, sound and kind; of a slider repeats (at most 299), distance and first node sound, the last two
+ *                      with a flag, 0 where there is none; of a spinner or hold its duration. What the kind has no use for may be anything.
  * The state:           four words, lent in *state_x to *state_w, which get the new state.
  *
  * A flag is set where it is not 0. A float may be anything, also a NaN, and so may a whole number: what is out of its range is refused, and
@@ -141,8 +148,8 @@ enum { SUMOPINE_CIRCLE = 0, SUMOPINE_SLIDER = 1, SUMOPINE_SPINNER = 2, SUMOPINE_
  * 4 to 6, 8 to 13, 16  0                0         0                0       0          as lent        as lent
  *
  * The checks are made in this order: 13 for columns (1 to 9), mask and last column, 4 for difficulty and multiplier, 5 for beat length and
- * velocity, and 6 for the object (sounds up to 15, repeats up to 1,023), the previous position and time and the density. Then come 8, 10, 9,
- * 16 and 12 as reached, and 11 for the notes buffer. */
+ * velocity, and 6 for the object (sounds up to 15, repeats up to 299), the previous position and time and the density. Then come 8, 10, 9, 16
+ * and 12 as reached, and 11 for the notes buffer. */
 uint32_t sumopine_object(double difficulty, double multiplier, double beat, double velocity, uint32_t kiai, double density,
                          double previous_time, float previous_x, float previous_y, uint32_t previous_mask, uint32_t previous_last,
                          uint32_t previous_stair, uint32_t columns, float x, float y, double start, uint32_t sound, uint32_t kind,
@@ -172,8 +179,8 @@ uint32_t sumopine_column_counts(float od_low, float od_high, float cs_low, float
  * 0                an end     an end
  * 4, 5, 6, 20, 8   0          0
  *
- * The checks are made in this order: 4 for the multiplier, 5 for beat length and velocity, 6 for position, start, sound, repeats and node
- * sound, 20 where an end of the range is outside 0 to 131,072 (-0.0 is) or the lower is above the upper, 8 where the latest end is above
+ * The checks are made in this order: 4 for the multiplier, 5 for beat length and velocity, 6 for position, start, sound, repeats (at most
+ * 299) and node sound, 20 where an end of the range is outside 0 to 131,072 (-0.0 is) or the lower is above the upper, 8 where the latest end is above
  * 33,554,431. */
 uint32_t sumopine_slider_ends(double multiplier, double beat, double velocity, float x, float y, double start, uint32_t sound, uint32_t repeats,
                               uint32_t has_node, uint32_t node, double distance_low, double distance_high, uint64_t *earliest,

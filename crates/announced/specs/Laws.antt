@@ -7,9 +7,9 @@ use native.Mathlib.Omega.{arith}
 use mathlib.Core.Bool.{Bool, true, false, not, _&&_, _||_}
 use mathlib.Core.List.{List, [], _∷_}
 use mathlib.Core.Logic.{_⊎_, inl, inr}
-use borrow.Author.Tests.{ltb-true, ltb-false, eqb-true, eqb-false}
+use borrow.Author.Tests.{leb-true, ltb-true, ltb-false, eqb-true, eqb-false}
 use lib.Bits.{bitOr}
-use lib.Dec.{T, eqb, ltb, lit<, lit≤}
+use lib.Dec.{T, eqb, leb, ltb, lit<, lit≤}
 use lib.IntN.{pos}
 use lib.Ieee.{Float, nan, inf, fin, binary32, binary64, fits, le, lt, eq, round}
 use lib.Ieee.Back.{round-whole}
@@ -18,7 +18,7 @@ use lib.Ieee.Fits.{ofInt-fits, and-i}
 use lib.Ieee.Order.{le-of-values}
 use lib.Ieee.Positive.{num, den, den-pos}
 use lib.ListN.{length}
-use Rattle.model.specs.Limits.{mostSpans, mostEntries, longestBeat, longestDistance, settingRange, multiplierRange, beatRange, velocityRange, spanRange, distanceRange}
+use Rattle.model.specs.Limits.{mostRepeats, mostSpans, mostEntries, longestBeat, longestDistance, settingRange, multiplierRange, beatRange, velocityRange, spanRange, distanceRange}
 use Rattle.rules.specs.Numbers as Numbers
 use Rattle.rules.specs.Rule.{if_then_else_}
 use Rattle.floats.specs.Range.{inRange}
@@ -393,21 +393,21 @@ known s e =
     let place = positionFits (s .position) in
     let start = inside spanRange (s .start) in
     let sound = ltb (s .sound) 16 in
-    let o = passed (place && start && sound && (ltb (s .repeats) mostSpans && distanceIn Missing && nodeFits (s .node))) Numbers.object _ (lit< tt) (p .1) in
+    let o = passed (place && start && sound && (leb (s .repeats) mostRepeats && distanceIn Missing && nodeFits (s .node))) Numbers.object _ (lit< tt) (p .1) in
     let t = two (inside beatRange (s .beat)) (inside velocityRange (s .velocity)) (p .0) in
-    let k = two (place && start && sound) (ltb (s .repeats) mostSpans && distanceIn Missing && nodeFits (s .node)) (o .0) .1 in
+    let k = two (place && start && sound) (leb (s .repeats) mostRepeats && distanceIn Missing && nodeFits (s .node)) (o .0) .1 in
     record {
       multiplier = at-least 3 (multiplierRange .low) (multiplierRange .high) (s .multiplier) (record { size = (refl, refl); low = lit≤ tt }) (refl, refl) (hold (m .0));
       velocity = at-least 10 (velocityRange .low) (velocityRange .high) (s .velocity) (record { size = (refl, refl); low = lit≤ tt }) (refl, refl) (hold (t .1));
       beat = up-to longestBeat (beatRange .low) (beatRange .high) (s .beat) (refl, refl) (refl, refl) (hold (t .0));
-      spans = few (s .repeats) (ltb-true (s .repeats) mostSpans (three (ltb (s .repeats) mostSpans) (distanceIn Missing) (nodeFits (s .node)) k .0));
+      spans = few (s .repeats) (leb-true (s .repeats) mostRepeats (three (leb (s .repeats) mostRepeats) (distanceIn Missing) (nodeFits (s .node)) k .0));
     }
   where
-    few : (n : ℕ) → n < mostSpans → n + 1 ≤ mostSpans
+    few : (n : ℕ) → n ≤ mostRepeats → n + 1 ≤ mostSpans
     few n h = omega arith
 
 -- the small numbers of a slider that passes the checks
-pub small-fields : (s : Slider) → restRefusal s ≡ 0 → (s .sound < 16) × (s .repeats < mostSpans) × (nodeFits (s .node) ≡ true)
+pub small-fields : (s : Slider) → restRefusal s ≡ 0 → (s .sound < 16) × (s .repeats ≤ mostRepeats) × (nodeFits (s .node) ≡ true)
 unfolding pointsFit factsOf kindFits
 small-fields s e =
     let m = passed (inside multiplierRange (s .multiplier)) Numbers.setting _ (lit< tt) (sym (rest-is s) ∙ e) in
@@ -415,11 +415,11 @@ small-fields s e =
     let place = positionFits (s .position) in
     let start = inside spanRange (s .start) in
     let sound = ltb (s .sound) 16 in
-    let few = ltb (s .repeats) mostSpans in
+    let few = leb (s .repeats) mostRepeats in
     let o = passed (place && start && sound && (few && distanceIn Missing && nodeFits (s .node))) Numbers.object _ (lit< tt) (p .1) in
     let t = two (place && start && sound) (few && distanceIn Missing && nodeFits (s .node)) (o .0) in
     let k = three few (distanceIn Missing) (nodeFits (s .node)) (t .1) in
-    (ltb-true (s .sound) 16 (three place start sound (t .0) .2), ltb-true (s .repeats) mostSpans (k .0), k .2)
+    (ltb-true (s .sound) 16 (three place start sound (t .0) .2), leb-true (s .repeats) mostRepeats (k .0), k .2)
 
 module _ (s : Slider) (r : DistanceRange) (e : restRefusal s ≡ 0) (h : distanceFits r ≡ true) (F : T (fits binary64 (r .low))) (G : T (fits binary64 (r .high))) where
   tests : (inside distanceRange (r .low) ≡ true) × (inside distanceRange (r .high) ≡ true) × (le (r .low) (r .high) ≡ true)

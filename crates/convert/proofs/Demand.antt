@@ -11,6 +11,7 @@ use Rattle.job.specs.Job.{job}
 use Rattle.job.proofs.Demand as Jobs
 use Rattle.job.proofs.Read.{reads}
 use Rattle.job.proofs.Refusals.{refusals}
+use Rattle.job.proofs.Largest.{largest}
 use Rattle.convert.specs.Ends.{jobEnd}
 use Rattle.convert.specs.Demand.{Demand, Answers, Spent, Other}
 use Rattle.convert.specs.declared.JobEnd.{JobEnd}
@@ -86,4 +87,6 @@ module _ (bytes buffer : List ℕ) where
         divided = d .divided;
         deck = λ a n g x e. d .deck a n g (answer a (J.Chart n g) x e);
         lanes = λ a n g x e. d .lanes a n g (answer a (J.Chart n g) x e);
+        largest-chart = λ a n g x e. largest bytes buffer .chart a n g (answer a (J.Chart n g) x e);
+        enough = λ room a i n x e. largest bytes buffer .enough room a i n (answer a (J.Refused 11 i n) x e);
       }

@@ -13,7 +13,7 @@ use lib.Ieee.Bits.{is-true}
 use lib.Ieee.Positive.{den}
 use lib.Ieee.Scale.{finite}
 use lib.ListN.{length, drop, getD, length-drop}
-use borrow.Author.Tests.{ltb-true, ltb-false, lt-ltb}
+use borrow.Author.Tests.{ltb-true, ltb-false, lt-ltb, le-leb}
 use Rattle.rules.specs.Rule.{if_then_else_, ended, run}
 use Rattle.rules.specs.Laws.Each.{each-at}
 use Rattle.random.specs.Generator.{values}
@@ -21,7 +21,7 @@ use Rattle.random.specs.declared.Random.{Random}
 use Rattle.floats.specs.Range.{inRange}
 use Rattle.floats.specs.Laws.Values.{sized}
 use Rattle.floats.specs.Laws.Spans.{up-to}
-use Rattle.model.specs.Limits.{mostSpans, mostRows, latestStart, latestEnd, beatRange, velocityRange, spanRange, coordinateRange, multiplierRange}
+use Rattle.model.specs.Limits.{mostRepeats, mostRows, latestStart, latestEnd, beatRange, velocityRange, spanRange, coordinateRange, multiplierRange}
 use Rattle.model.specs.ControlPoint.{beatFrom, beatAt, velocityFrom, velocityAt}
 use Rattle.model.specs.Song.{Song}
 use Rattle.model.specs.declared.Object.{Object}
@@ -145,7 +145,7 @@ module _ (o : Object) (span : ℕ) (h : Small latestStart (o .start)) (l : span 
   leaves-dense Circle d f k = k
   leaves-dense (Slider repeats distance node) d f k = nodes-dense o span h l (repeats + 2) 0 d (few repeats (f .0)) k
     where
-      few : (n : ℕ) → n < mostSpans → 0 + (n + 2) ≤ mostRows + 1
+      few : (n : ℕ) → n ≤ mostRepeats → 0 + (n + 2) ≤ mostRows + 1
       few n h = omega arith
   leaves-dense (Spinner duration) d f k = dense-next _ d (ends-small (o .start) duration h (small-span duration (f .inside))) k
   leaves-dense (Hold duration) d f k = dense-next _ d (ends-small (o .start) duration h (small-span duration (f .inside))) k
@@ -155,7 +155,7 @@ module _ (o : Object) (span : ℕ) (h : Small latestStart (o .start)) (l : span 
   after-small Circle f = near h
   after-small (Slider repeats distance node) f = node-small o span (repeats + 1) h l (few repeats (f .0))
     where
-      few : (n : ℕ) → n < mostSpans → n + 1 ≤ mostRows
+      few : (n : ℕ) → n ≤ mostRepeats → n + 1 ≤ mostRows
       few n h = omega arith
   after-small (Spinner duration) f = ends-small (o .start) duration h (small-span duration (f .inside))
   after-small (Hold duration) f = ends-small (o .start) duration h (small-span duration (f .inside))
@@ -288,7 +288,7 @@ node-in (N.Given s) h = lt-ltb s 16 h
 kind-in : (k : Kind) → FitKind k → kindFits k ≡ true
 unfolding kindFits
 kind-in Circle h = refl
-kind-in (Slider repeats distance node) h = rw (lt-ltb repeats mostSpans (h .0), distance-in distance (h .1), node-in node (h .2))
+kind-in (Slider repeats distance node) h = rw (le-leb repeats mostRepeats (h .0), distance-in distance (h .1), node-in node (h .2))
 kind-in (Spinner duration) h = is-true _ (h .inside)
 kind-in (Hold duration) h = is-true _ (h .inside)
 

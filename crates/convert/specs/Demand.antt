@@ -23,6 +23,7 @@ use Rattle.job.specs.Job.{columns, draws, ledger, notes, job}
 use Rattle.job.specs.Demand.{after}
 use Rattle.job.specs.Refusals.{Condition}
 use Rattle.job.specs.Read.{chartNotes}
+use Rattle.job.specs.Largest.{largestChart}
 use Rattle.convert.specs.Ends.{jobEnd}
 use Rattle.convert.specs.declared.JobEnd.{JobEnd}
 use Rattle.convert.specs.declared.JobEnd.the-variants as J
@@ -80,3 +81,6 @@ pub record Demand (bytes buffer : List ℕ) : Type 0 where
   pub deck : (a n g : ℕ) (x : List ℕ) → Answers bytes buffer a (J.Chart n g) x
       → (1 ≤ columns bytes) × (columns bytes ≤ 9) × Each (Each (OnDeck (columns bytes))) (notes bytes buffer a)
   pub lanes : (a n g : ℕ) (x : List ℕ) → Answers bytes buffer a (J.Chart n g) x → Each Lanes (notes bytes buffer a)
+  -- no chart is longer than the largest, and a buffer as long is never too short
+  pub largest-chart : (a n g : ℕ) (x : List ℕ) → Answers bytes buffer a (J.Chart n g) x → n ≤ largestChart
+  pub enough : largestChart ≤ length buffer → (a i n : ℕ) (x : List ℕ) → Answers bytes buffer a (J.Refused Numbers.chartTooShort i n) x → ⊥

@@ -3,12 +3,12 @@ use mathlib.Core.Path.{_≡_, refl, sym, subst}
 use Prim.Native.Nat.{ℕ, _^_, _≤_, _<_}
 use native.Mathlib.Omega.{arith}
 use mathlib.Core.Bool.{Bool, true, false, not, _&&_}
-use borrow.Author.Tests.{ltb-true}
-use lib.Dec.{T, ltb, lit<, lit≤}
+use borrow.Author.Tests.{leb-true}
+use lib.Dec.{T, leb, ltb, lit<, lit≤}
 use lib.Ieee.{binary64}
 use lib.Ieee.Back.{round-whole}
 use lib.Ieee.Scale.{finite}
-use Rattle.model.specs.Limits.{mostRepeats, mostSpans, latestStart, spanRange}
+use Rattle.model.specs.Limits.{mostRepeats, latestStart, spanRange}
 use Rattle.rules.specs.Rule.{if_then_else_}
 use Rattle.floats.specs.Laws.Values.{sized}
 use Rattle.floats.specs.Laws.Spans.{up-to}
@@ -33,10 +33,7 @@ passed false n r h e = absurd (omega arith)
 few-repeats : (k : Kind) → kindFits k ≡ true → FewRepeats k
 unfolding kindFits
 few-repeats Circle e = tt
-few-repeats (Slider repeats distance node) e = below repeats (ltb-true repeats mostSpans (three (ltb repeats mostSpans) (distanceFits distance) (nodeFits node) e .0))
-  where
-    below : (n : ℕ) → n < mostSpans → n ≤ mostRepeats
-    below n h = omega arith
+few-repeats (Slider repeats distance node) e = leb-true repeats mostRepeats (three (leb repeats mostRepeats) (distanceFits distance) (nodeFits node) e .0)
 few-repeats (Spinner d) e = tt
 few-repeats (Hold d) e = tt
 

@@ -107,7 +107,7 @@ fn slider_fits(repeats: u16, distance: Distance, node: NodeSound) -> bool
 {
     let a = distance_fits(distance);
     let b = node_fits(node);
-    (repeats < limits::MOST_SPANS) & a & b
+    (repeats <= limits::MOST_REPEATS) & a & b
 }
 
 fn kind_fits(k: Kind) -> bool

@@ -1,5 +1,5 @@
--- Demand 3 of records (`Demand`), the conditions of their refusals (`Numbers`, `Refusals`), and that a job's chart is read (`Read`), from what
--- an accepted record says of its song (`Ranges`) and so of its notes (`Sliders`, `Times`).
+-- Demand 3 of records (`Demand`), the conditions of their refusals (`Numbers`, `Refusals`), that a job's chart is read (`Read`) and how long it
+-- can be (`Largest`), from what an accepted record says of its song (`Ranges`) and so of its notes (`Sliders`, `Times`).
 pub mod Numbers
 pub mod Times
 pub mod Ranges
@@ -7,3 +7,4 @@ pub mod Sliders
 pub mod Demand
 pub mod Read
 pub mod Refusals
+pub mod Largest

@@ -1,11 +1,11 @@
 -- The chart of an accepted job is read: each note is one that the chart reader takes. Assumes nothing.
 use mathlib.Core.Path.{_≡_, refl, sym, ap, _∙_, subst}
 use Prim.Native.Nat.{ℕ, suc, _+_, _-_, _*_, _^_, _≤_, _<_}
-use native.Mathlib.Nat.{le-trans, le-refl, lt-of-le-of-lt, lt-of-lt-of-le, zero-add}
+use native.Mathlib.Nat.{le-trans, le-refl, mul-le-mul-left, lt-of-le-of-lt, lt-of-lt-of-le, zero-add}
 use native.Mathlib.Omega.{arith}
 use mathlib.Core.List.{List, [], _∷_, map}
 use mathlib.Core.Option.{some}
-use lib.Dec.{lit≤}
+use lib.Dec.{lit<, lit≤}
 use borrow.Author.Tests.{ltb-true}
 use lib.ListN.{length, take, drop, length-append, length-drop}
 use lib.Seq.{take-at}
@@ -17,6 +17,7 @@ use Rattle.random.specs.Generator.{values, seeded}
 use Rattle.random.specs.Laws.Allowance.{done-le}
 use Rattle.chart.specs.Tests.{passes}
 use Rattle.chart.specs.Chart.{encode, decode, okNote, noteTests}
+use Rattle.chart.specs.Layout.{chartSize}
 use Rattle.chart.specs.Laws.Notes.{length-encode, Fits}
 use Rattle.chart.specs.Laws.Reader.{note-fits}
 use Rattle.chart.specs.Order.{arranged}
@@ -116,21 +117,17 @@ module _ (s buffer : List ℕ) (r : Song) (e : parse s ≡ accepted r) (a n : �
       let d : Done (run m (values a st)) = subst Done (sym u) tt in
       subst (λ (o : Outcome ℕ AtObject (List (List Note))). taken o ≤ a) u (done-le m st a d)
 
-  few-all : length (inWalkOrder nss) < 2 ^ 24
+  few-all : length (inWalkOrder nss) ≤ mostNotes * mostEntries
   few-all =
       let fit = fit-song s r e in
-      below (length (inWalkOrder nss)) (length (r .objects))
-      (ended-few r buffer (few-columns r (accepted-keys s r e)) (objects-in-range s r e) a n nss u) (fit .few)
-    where
-      below : (k n : ℕ) → k ≤ mostNotes * n → n ≤ mostEntries → k < 2 ^ 24
-      below k n h l = omega arith
+      le-trans (ended-few r buffer (few-columns r (accepted-keys s r e)) (objects-in-range s r e) a n nss u) (mul-le-mul-left mostNotes (fit .few))
 
   module _ (small : a < 2 ^ 32) where
     pub read-back : decode (encode (columnsOf r) n (arranged [] (map patternOf (inWalkOrder nss))))
         ≡ some (record { columns = columnsOf r; draws = n; notes = arranged [] (map patternOf (inWalkOrder nss)) })
     read-back =
         written-read (columnsOf r) n (map patternOf (inWalkOrder nss)) (some-columns r) (few-columns r (accepted-keys s r e))
-        (lt-of-le-of-lt drawn small) (rw (length-patterns (inWalkOrder nss)) few-all) (okay-written (columnsOf r) (inWalkOrder nss) okay-all)
+        (lt-of-le-of-lt drawn small) (rw (length-patterns (inWalkOrder nss)) (lt-of-le-of-lt few-all (lit< tt))) (okay-written (columnsOf r) (inWalkOrder nss) okay-all)
 
 -- ---- the job
 
@@ -161,6 +158,7 @@ length-written bytes buffer h = length-append bytes (drop (length bytes) buffer)
 record ReadsOf (c d : ℕ) (nss : List (List Note)) (buffer : List ℕ) (a n : ℕ) : Type 0 where
   long : n ≡ length (encode c d (arranged [] (map patternOf (inWalkOrder nss))))
   room : length (encode c d (arranged [] (map patternOf (inWalkOrder nss)))) ≤ length buffer
+  few : length (inWalkOrder nss) ≤ mostNotes * mostEntries
   read : a < 2 ^ 32 → decode (encode c d (arranged [] (map patternOf (inWalkOrder nss))))
       ≡ some (record { columns = c; draws = d; notes = arranged [] (map patternOf (inWalkOrder nss)) })
 
@@ -181,6 +179,7 @@ reads-of s buffer (accepted r) e a n g h =
             let ns = map patternOf (inWalkOrder (notesIn o)) in
             rw (length-encode c (taken o) (arranged [] ns), length-arranged [] ns, zero-add (length ns), length-patterns (inWalkOrder (notesIn o)))
             (ended-room r buffer a (taken o) (notesIn o) u);
+        few = few-all s buffer r e a (taken o) (notesIn o) u;
         read = λ small. read-back s buffer r e a (taken o) (notesIn o) u small;
       },
     )
@@ -202,3 +201,16 @@ reads s buffer =
           ap (λ (i : ℕ). take i (job s buffer a .chart)) (k .1 .long) ∙ ap (take (length b)) (k .0) ∙ take-written b buffer in
           ap decode taken-is ∙ k .1 .read small;
     }
+
+-- no chart is longer than that of the most objects, each with the most notes
+pub chart-few : (s buffer : List ℕ) (a n g : ℕ) → job s buffer a .answer ≡ OfSong.accepted n g → n ≤ chartSize (mostNotes * mostEntries)
+unfolding job
+chart-few s buffer a n g h =
+    let k = reads-of s buffer (parse s) refl a n g h .1 in
+    let ns = map patternOf (inWalkOrder (notesOf (parse s) buffer a)) in
+    let size = k .long ∙ length-encode _ _ (arranged [] ns) in
+    size-few n (length (inWalkOrder (notesOf (parse s) buffer a)))
+    (rw (size, length-arranged [] ns, zero-add (length ns), length-patterns (inWalkOrder (notesOf (parse s) buffer a)))) (k .few)
+  where
+    size-few : (n k : ℕ) → n ≡ chartSize k → k ≤ mostNotes * mostEntries → n ≤ chartSize (mostNotes * mostEntries)
+    size-few n k e h = omega arith

@@ -4,3 +4,4 @@ pub mod Demand
 pub mod Read
 pub mod Refusals
 pub mod NeverBlocked
+pub mod Largest

@@ -1,13 +1,13 @@
--- An object makes at most 2,050 notes. Assumes nothing.
+-- An object makes at most 602 notes. Assumes nothing.
 use mathlib.Core.Path.{_≡_, refl, sym, ap, _∙_, subst}
 use Prim.Native.Nat.{ℕ, zero, suc, _+_, _-_, _*_, _^_, _≤_, _<_, min}
-use native.Mathlib.Nat.{le-trans, mul-le-mul-right, mul-le-mul-left}
+use native.Mathlib.Nat.{le-refl, le-trans, mul-le-mul-right, mul-le-mul-left}
 use native.Mathlib.Omega.{arith}
 use mathlib.Core.Bool.{Bool, true, false, _&&_}
 use mathlib.Core.List.{List, [], _∷_, _++_, map}
 use lib.Dec.{eqb, leb, ltb, lit≤}
 use lib.Ieee.{Float, lt}
-use lib.ListN.{length, length-append}
+use lib.ListN.{length, take, length-append}
 use borrow.Author.Tests.{leb-false, ltb-false}
 use Rattle.model.specs.Limits.{mostRepeats, mostSpans, mostRows, mostNotes, mostLongSpans}
 use Rattle.rules.specs.Rule.{if_then_else_, Rule, give, refuse, draw, drawUntil, _>>=_, ended}
@@ -32,6 +32,7 @@ use Rattle.mania.specs.Chart.{inWalkOrder}
 use Rattle.mania.specs.Convert
 use Rattle.model.specs.Song.{Song}
 use Rattle.mania.specs.Convert.{Walk, SongFacts, songFacts, at, seed, columnsOf, convert}
+use Rattle.mania.specs.Refusals.{TooLong}
 use Rattle.mania.specs.Job.{under}
 use Rattle.mania.specs.Demand.{Each}
 use Rattle.random.specs.Play.{on}
@@ -282,7 +283,7 @@ module _ (columns : ℕ) (some : 1 ≤ columns) (deck : columns ≤ 9) where
       less (circle-differ (HitObject.new f v columns o) (λ n. n .column < columns) (λ c l. l) some)
       (λ made h. le-trans (pigeons (λ (n : Note). n .column) columns (made .notes) (h .0) (h .1)) (le-trans deck (lit≤ tt)))
 
-  kind-few : (f : Facts) (v : PrevValues) (o : Object) (k : Kind) → FewRepeats k → Makes (λ made. length (made .notes) ≤ mostNotes) (byKind f v columns o k)
+  pub kind-few : (f : Facts) (v : PrevValues) (o : Object) (k : Kind) → FewRepeats k → Makes (λ made. length (made .notes) ≤ mostNotes) (byKind f v columns o k)
   unfolding byKind PathObject.new PathObject.spanLength
   kind-few f v o Circle h = circle-few f v o
   kind-few f v o (Slider repeats distance node) h =
@@ -324,6 +325,25 @@ pub ended-few : (s : Song) (buffer : List ℕ) → columnsOf s ≤ 9 → Each In
     → length (inWalkOrder nss) ≤ mostNotes * length (s .objects)
 unfolding under
 ended-few s buffer deck h a n nss e = ran _ (convert s (length buffer)) (convert-few s (length buffer) deck h .made) (seeded (seed (s .settings))) a nss n e
+
+-- the number of notes of an accepted song's objects so far, where they do not fit
+pub long-few : (s : Song) (room a i n : ℕ) → columnsOf s ≤ 9 → Each InRange (s .objects) → (t : TooLong s room a i n)
+    → length (inWalkOrder (t .nss)) ≤ mostNotes * length (s .objects)
+long-few s room a i n deck h t =
+    let wide = chartSize (length (inWalkOrder (t .nss))) in
+    let os = take (suc i) (s .objects) in
+    let few = walk-few (columnsOf s) (some-columns s) deck (songFacts s) wide 0 Convert.beginning os (each-take (suc i) (s .objects) h) in
+    le-trans (ran _ _ (few .made) (seeded (seed (s .settings))) a (t .nss) n (t .made wide (le-refl wide))) (mul-le-mul-left mostNotes (take-few (suc i) (s .objects)))
+  where
+    each-take : (k : ℕ) (os : List Object) → Each InRange os → Each InRange (take k os)
+    each-take zero os h = tt
+    each-take (suc k) [] h = tt
+    each-take (suc k) (o ∷ os) h = (h .0, each-take k os (h .1))
+
+    take-few : (k : ℕ) (os : List Object) → length (take k os) ≤ length os
+    take-few zero os = omega arith
+    take-few (suc k) [] = omega arith
+    take-few (suc k) (o ∷ os) = let z = take-few k os in omega arith
 
 -- ---- and they have room
 

@@ -2,7 +2,7 @@
 -- `SliderLanes`). Refusals: `Conditions`, from what each generator is refused by (`CircleEnds`, `SliderEnds`); `Sources`: what 9 and 10 stand for;
 -- `Reach`: why 9 and 10 don't come out of a song, from what each generator leaves (`CircleReach`, `SliderReach`; `Follows`); `Eight`, `Eleven`, and
 -- `Refuses` the other way round. `Singles`: the claims of the single-object entry; `OneRule`: a walk's step is one. `CircleDeck`, `SliderDeck`: what the
--- next object meets; `Lists`: that this is a pattern with as many notes as its mask has ones. `Counts`: how many notes an object makes. `Limits`: how
+-- next object meets; `Lists`: that this is a pattern with as many notes as its mask has ones. `Counts`, `MostNotes`: how many notes an object makes. `Limits`: how
 -- many draws a search may make, `Own`: that it tells how many it made. `Ones`, `Frees`, `Masks`: the columns of a mask. `Back`: columns and positions.
 -- `Examples`: computed on the definition.
 pub mod Makes
@@ -43,3 +43,4 @@ pub mod Singles
 pub mod OneRule
 pub mod Computing
 pub mod Examples
+pub mod MostNotes

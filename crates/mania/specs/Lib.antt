@@ -17,6 +17,7 @@ pub mod Walked
 pub mod Refusals
 pub mod Single
 pub mod Previous
+pub mod MostNotes
 pub mod Reached
 pub mod Job
 pub mod Demand

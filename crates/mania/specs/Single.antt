@@ -6,7 +6,7 @@ use lib.Dec.{eqb, leb, ltb}
 use lib.Ieee.{Float, le}
 use lib.Ieee.Scale.{finite}
 use lib.ListN.{length}
-use Rattle.model.specs.Limits.{Range, mostSpans, multiplierRange, beatRange, velocityRange, spanRange, coordinateRange, distanceRange, mostDifficulty}
+use Rattle.model.specs.Limits.{Range, mostRepeats, multiplierRange, beatRange, velocityRange, spanRange, coordinateRange, distanceRange, mostDifficulty}
 use Rattle.rules.specs.Numbers as Numbers
 use Rattle.rules.specs.Rule.{Outcome, ended, refused, spent, give, refuse, run, _>>=_, if_then_else_}
 use Rattle.rules.specs.Refusal.{Refusal, tooShort, number, spentNumber, ObjectRule}
@@ -68,7 +68,7 @@ nodeFits (N.Given s) = ltb s 16
 -- what the kind carries
 unfoldable pub kindFits : Kind → Bool
 kindFits Circle = true
-kindFits (Slider repeats distance node) = ltb repeats mostSpans && distanceFits distance && nodeFits node
+kindFits (Slider repeats distance node) = leb repeats mostRepeats && distanceFits distance && nodeFits node
 kindFits (Spinner duration) = inside spanRange duration
 kindFits (Hold duration) = inside spanRange duration
 

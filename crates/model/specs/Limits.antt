@@ -3,9 +3,9 @@ use Prim.Native.Nat.{ℕ, _+_, _*_}
 use mathlib.Core.Bool.{true, false}
 use lib.Ieee.{Float, binary32, binary64, round}
 
--- repeats of a slider: the field has 10 bits
+-- repeats of a slider: the largest count delivered
 abbrev pub mostRepeats : ℕ
-mostRepeats = 1023
+mostRepeats = 299
 
 -- spans of a slider
 abbrev pub mostSpans : ℕ

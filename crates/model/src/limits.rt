@@ -1,10 +1,10 @@
 // Document 01's limits that code names. specs/Limits.antt has the same numbers.
 
-// Spans of a slider: one more than its repeats.
-pub const MOST_SPANS: u16 = 1024;
+// Repeats of a slider: the largest count delivered.
+pub const MOST_REPEATS: u16 = 299;
 
-// Notes of an object: two in each of 1,025 rows.
-pub const MOST_NOTES: usize = 2050;
+// Notes of an object: two in each of 301 rows.
+pub const MOST_NOTES: usize = 602;
 
 // Objects of a song.
 pub const MOST_OBJECTS: u32 = 4095;

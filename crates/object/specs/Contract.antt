@@ -15,7 +15,7 @@ use Rattle.pattern.specs.declared.ObjectEnd.{ObjectEnd}
 use Rattle.pattern.specs.declared.ObjectEnd.the-variants as E
 use Rattle.object.specs.Notes.{noteAt}
 
--- a deck, a previous pattern on it, an object in range, and two buffers of at least 2,050 words
+-- a deck, a previous pattern on it, an object in range, and two buffers of at least 602 words
 pub record Asks (v : PrevValues) (columns : ℕ) (o : Object) (size spareSize : ℕ) : Type 0 where
   pub low : 1 ≤ columns
   pub high : columns ≤ 9
@@ -25,7 +25,7 @@ pub record Asks (v : PrevValues) (columns : ℕ) (o : Object) (size spareSize : 
   pub words : mostNotes ≤ size
   pub spare : mostNotes ≤ spareSize
 
--- at most 2,050 notes, and a pattern on the deck for the next object
+-- at most 602 notes, and a pattern on the deck for the next object
 abbrev pub OnDeck : ℕ → ObjectEnd → Type 0
 OnDeck columns (E.Made p s d) = (p .count ≤ mostNotes) × (p .mask < 2 ^ columns) × (p .last < columns)
 OnDeck columns (E.Refused x d) = Unit {0}

@@ -4,15 +4,15 @@ use Prim.Native.Nat.{ℕ, zero, suc, _^_, _≤_, _<_, min}
 use native.Mathlib.Omega.{arith}
 use mathlib.Core.Bool.{Bool, true, false, not, _&&_, cond}
 use mathlib.Core.List.{List}
-use lib.Dec.{eqb, ltb, lit<}
+use lib.Dec.{eqb, leb, ltb, lit<, leb·suc-suc}
 use lib.Ieee.{Float}
 use lib.Ieee.Scale.{finite}
 use lib.Pow.{pow-mono}
-use borrow.Author.Tests.{eqb-true, eqb-false, ltb-true, ltb-false, lt-ltb, le-ltb}
+use borrow.Author.Tests.{eqb-true, eqb-false, leb-true, ltb-true, ltb-false, lt-ltb, le-ltb}
 use Rattle.rules.specs.Numbers as Numbers
 use Rattle.rules.specs.Rule.{if_then_else_}
 use Rattle.random.specs.declared.Random.{Random}
-use Rattle.model.specs.Limits.{mostSpans, spanRange}
+use Rattle.model.specs.Limits.{mostRepeats, mostSpans, spanRange}
 use Rattle.model.specs.declared.Distance.{Distance}
 use Rattle.model.specs.declared.NodeSound.{NodeSound}
 use Rattle.model.specs.declared.NodeSound.the-variants as N
@@ -35,6 +35,9 @@ same-test n most bound h = go (ltb n bound) refl
     go : (b : Bool) → ltb n bound ≡ b → ltb (min n most) bound ≡ ltb n bound
     go true e = let z = ltb-true n bound e in lt-ltb (min n most) bound (omega arith) ∙ sym e
     go false e = let z = ltb-false n bound e in le-ltb (min n most) bound (omega arith) ∙ sym e
+
+pub same-most : (n most bound : ℕ) → suc bound ≤ most → leb (min n most) bound ≡ leb n bound
+same-most n most bound h = sym (leb·suc-suc (min n most) bound) ∙ same-test n most (suc bound) h ∙ leb·suc-suc n bound
 
 -- a number within the bound is itself
 pub itself : (n most bound : ℕ) → bound ≤ most → min n most < bound → min n most ≡ n
@@ -68,7 +71,7 @@ module _ (repeats : ℕ) (distance : Distance) (given node : ℕ) (duration : Fl
   kind-test : (kind : ℕ) → kindFits (cut-kind kind) ≡ kindFits (whole-kind kind)
   unfolding kindOf kindFits
   kind-test zero = refl
-  kind-test (suc zero) = rw (same-test repeats largest16 mostSpans (omega arith), node-test given node) refl
+  kind-test (suc zero) = rw (same-most repeats largest16 mostRepeats (omega arith), node-test given node) refl
   kind-test (suc (suc zero)) = refl
   kind-test (suc (suc (suc zero))) = refl
   kind-test (suc (suc (suc (suc k)))) = refl
@@ -77,9 +80,9 @@ module _ (repeats : ℕ) (distance : Distance) (given node : ℕ) (duration : Fl
   unfolding kindOf kindFits
   kind-itself zero e = refl
   kind-itself (suc zero) e =
-      let t = three (ltb (saturate16 repeats) mostSpans) (distanceFits distance) (nodeFits (nodeOf given (saturate8 node))) e in
+      let t = three (leb (saturate16 repeats) mostRepeats) (distanceFits distance) (nodeFits (nodeOf given (saturate8 node))) e in
       ap₂ (λ (r : ℕ) (n : NodeSound). Slider r distance n)
-      (itself repeats largest16 mostSpans (omega arith) (ltb-true (saturate16 repeats) mostSpans (t .0))) (node-itself given node (t .2))
+      (itself repeats largest16 mostSpans (omega arith) (omega (arith, leb-true (saturate16 repeats) mostRepeats (t .0)))) (node-itself given node (t .2))
   kind-itself (suc (suc zero)) e = refl
   kind-itself (suc (suc (suc zero))) e = refl
   kind-itself (suc (suc (suc (suc k)))) e = refl

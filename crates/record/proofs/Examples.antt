@@ -80,3 +80,18 @@ duration-cut = refl
 filling-bit : recordRefusal (20 ∷ 0 ∷ 0 ∷ 0 ∷ 0 ∷ 0 ∷ 0 ∷ 0 ∷ 0 ∷ 0 ∷ 0 ∷ 0 ∷ 0 ∷ 0 ∷ 0 ∷ 0 ∷ 0 ∷ 63 ∷ 240 ∷ 0 ∷ 0 ∷ 0 ∷ 0 ∷ 0 ∷ 0 ∷ 0 ∷ 0 ∷ 0 ∷ 0 ∷ 0 ∷ 0 ∷ 1 ∷ 0 ∷ 0 ∷ 0 ∷ 0 ∷ 0 ∷ 0 ∷ 0 ∷ 0 ∷ 1 ∷ 0 ∷ 64 ∷ 0 ∷ 0 ∷ 0 ∷ 0 ∷ 0 ∷ 1 ∷ []) ≡ 7
 unfolding recordRefusal listsRefusal headerRefusal headerFields sectionRefusal entryRefusal noTime objectsRefusal objectRefusal fieldsRefusal nodeBit sliderEnd startAt kindEnd objectEnd objectsEnd zeroStart entriesRefusal entriesEnd fillRefusal recordEnd placesOf countsOf f64At float inRange short bits bit _then_ _gives_ round size span climb units odd ofBits ofFields nanBits neg lt le eq trailingZeros
 filling-bit = refl
+
+-- a slider of 300 repeats, of which nothing more is there: 6, not 1
+repeats-300 : recordRefusal (20 ∷ 0 ∷ 0 ∷ 0 ∷ 0 ∷ 0 ∷ 0 ∷ 0 ∷ 0 ∷ 0 ∷ 0 ∷ 0 ∷ 0 ∷ 0 ∷ 0 ∷ 0 ∷ 0 ∷ 63 ∷ 240 ∷ 0 ∷ 0 ∷ 0 ∷ 0 ∷ 0 ∷ 0 ∷ 0 ∷ 0 ∷ 0 ∷ 0 ∷ 0 ∷ 0 ∷ 1 ∷ 64 ∷ 0 ∷ 0 ∷ 0 ∷ 0 ∷ 0 ∷ 0 ∷ 0 ∷ 0 ∷ 0 ∷ 0 ∷ 0 ∷ 0 ∷ 0 ∷ 0 ∷ 0 ∷ 1 ∷ 44 ∷ []) ≡ 6
+unfolding recordRefusal listsRefusal headerRefusal headerFields sectionRefusal entryRefusal noTime objectsRefusal objectRefusal fieldsRefusal nodeBit sliderEnd startAt kindEnd objectEnd objectsEnd zeroStart entriesRefusal entriesEnd fillRefusal recordEnd placesOf countsOf f64At float inRange short bits bit _then_ _gives_ round size span climb units odd ofBits ofFields nanBits neg lt le eq trailingZeros
+repeats-300 = refl
+
+-- cut inside its repeats
+repeats-cut : recordRefusal (20 ∷ 0 ∷ 0 ∷ 0 ∷ 0 ∷ 0 ∷ 0 ∷ 0 ∷ 0 ∷ 0 ∷ 0 ∷ 0 ∷ 0 ∷ 0 ∷ 0 ∷ 0 ∷ 0 ∷ 63 ∷ 240 ∷ 0 ∷ 0 ∷ 0 ∷ 0 ∷ 0 ∷ 0 ∷ 0 ∷ 0 ∷ 0 ∷ 0 ∷ 0 ∷ 0 ∷ 1 ∷ 64 ∷ 0 ∷ 0 ∷ 0 ∷ 0 ∷ 0 ∷ 0 ∷ 0 ∷ 0 ∷ 0 ∷ 0 ∷ 0 ∷ 0 ∷ 0 ∷ 0 ∷ 0 ∷ 1 ∷ []) ≡ 1
+unfolding recordRefusal listsRefusal headerRefusal headerFields sectionRefusal entryRefusal noTime objectsRefusal objectRefusal fieldsRefusal nodeBit sliderEnd startAt kindEnd objectEnd objectsEnd zeroStart entriesRefusal entriesEnd fillRefusal recordEnd placesOf countsOf f64At float inRange short bits bit _then_ _gives_ round size span climb units odd ofBits ofFields nanBits neg lt le eq trailingZeros
+repeats-cut = refl
+
+-- 299 repeats, of which nothing more is there
+repeats-299 : recordRefusal (20 ∷ 0 ∷ 0 ∷ 0 ∷ 0 ∷ 0 ∷ 0 ∷ 0 ∷ 0 ∷ 0 ∷ 0 ∷ 0 ∷ 0 ∷ 0 ∷ 0 ∷ 0 ∷ 0 ∷ 63 ∷ 240 ∷ 0 ∷ 0 ∷ 0 ∷ 0 ∷ 0 ∷ 0 ∷ 0 ∷ 0 ∷ 0 ∷ 0 ∷ 0 ∷ 0 ∷ 1 ∷ 64 ∷ 0 ∷ 0 ∷ 0 ∷ 0 ∷ 0 ∷ 0 ∷ 0 ∷ 0 ∷ 0 ∷ 0 ∷ 0 ∷ 0 ∷ 0 ∷ 0 ∷ 0 ∷ 1 ∷ 43 ∷ []) ≡ 1
+unfolding recordRefusal listsRefusal headerRefusal headerFields sectionRefusal entryRefusal noTime objectsRefusal objectRefusal fieldsRefusal nodeBit sliderEnd startAt kindEnd objectEnd objectsEnd zeroStart entriesRefusal entriesEnd fillRefusal recordEnd placesOf countsOf f64At float inRange short bits bit _then_ _gives_ round size span climb units odd ofBits ofFields nanBits neg lt le eq trailingZeros
+repeats-299 = refl

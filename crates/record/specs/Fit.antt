@@ -6,7 +6,7 @@ use mathlib.Core.List.{List, [], _∷_}
 use lib.Dec.{T}
 use lib.ListN.{length}
 use lib.Ieee.{Float, Format, binary32, binary64, fits, lt}
-use Rattle.model.specs.Limits.{Range, mostSpans, mostBreaks, mostEntries, settingRange, multiplierRange, timeRange, beatRange, velocityRange, spanRange, coordinateRange, distanceRange}
+use Rattle.model.specs.Limits.{Range, mostRepeats, mostBreaks, mostEntries, settingRange, multiplierRange, timeRange, beatRange, velocityRange, spanRange, coordinateRange, distanceRange}
 use Rattle.floats.specs.Range.{inRange}
 use Rattle.model.specs.declared.Settings.{Settings}
 use Rattle.model.specs.declared.BreakPeriod.{BreakPeriod}
@@ -73,7 +73,7 @@ FitNode (NodeSound.Given sound) = sound < 16
 
 abbrev pub FitKind : Kind → Type 0
 FitKind Circle = Unit {0}
-FitKind (Slider repeats distance node) = (repeats < mostSpans) × FitDistance distance × FitNode node
+FitKind (Slider repeats distance node) = (repeats ≤ mostRepeats) × FitDistance distance × FitNode node
 FitKind (Spinner d) = FitSpan d
 FitKind (Hold d) = FitSpan d
 

@@ -84,8 +84,11 @@ longest = 214
 
 -- ---- what a slider adds, from its first bit on, which is that of the repeats: whether a distance is given, and the distance
 
+abbrev pub repeatsWidth : ℕ
+repeatsWidth = 10
+
 abbrev pub isGiven : ℕ
-isGiven = 10
+isGiven = repeatsWidth
 
 abbrev pub distance : ℕ
 distance = 11

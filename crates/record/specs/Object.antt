@@ -2,9 +2,10 @@
 use Prim.Native.Nat.{ℕ, zero, suc, _+_, _*_}
 use mathlib.Core.Bool.{Bool, false, _||_}
 use mathlib.Core.List.{List, [], _∷_, _++_}
+use lib.Dec.{ltb}
 use lib.Ieee.{Float, binary64, round, lt}
 use Rattle.rules.specs.Numbers as Numbers
-use Rattle.model.specs.Limits.{spanRange, distanceRange, coordinateRange}
+use Rattle.model.specs.Limits.{mostRepeats, spanRange, distanceRange, coordinateRange}
 use Rattle.bits.specs.Field.{bits}
 use Rattle.model.specs.declared.Distance.{Distance}
 use Rattle.model.specs.declared.Distance.the-variants as Distance
@@ -44,7 +45,7 @@ nodeBy s p (suc b) = NodeSound.Given (bits s p 4)
 unfoldable pub sliderAt : List ℕ → ℕ → Kind
 unfolding nodeBit distanceBy nodeBy
 sliderAt s q =
-    Slider (bits s q 10) (distanceBy s (q + At.distance) (bits s (q + At.isGiven) 1)) (nodeBy s (nodeBit s q + 1) (bits s (nodeBit s q) 1))
+    Slider (bits s q At.repeatsWidth) (distanceBy s (q + At.distance) (bits s (q + At.isGiven) 1)) (nodeBy s (nodeBit s q + 1) (bits s (nodeBit s q) 1))
 
 -- by the kind's number: its value, its end, its fields
 unfoldable pub kindBy : List ℕ → ℕ → ℕ → Kind
@@ -79,10 +80,14 @@ abbrev pub nodeFields : ℕ → ℕ → List Field
 nodeFields p zero = []
 nodeFields p (suc b) = plain p 4 ∷ []
 
+-- the repeats: their field could hold up to 1,023
+abbrev pub repeatsField : List ℕ → ℕ → Field
+repeatsField s q = field q At.repeatsWidth (ltb mostRepeats (bits s q At.repeatsWidth)) Numbers.object
+
 -- repeats, a bit, the distance, a bit, the first node sound
 abbrev pub sliderFields : List ℕ → ℕ → List Field
 sliderFields s q =
-    plain q 10
+    repeatsField s q
     ∷ plain (q + At.isGiven) 1
     ∷ (distanceFields s (q + At.distance) (bits s (q + At.isGiven) 1) ++ (plain (nodeBit s q) 1 ∷ nodeFields (nodeBit s q + 1) (bits s (nodeBit s q) 1)))
 

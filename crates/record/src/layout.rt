@@ -48,6 +48,8 @@ pub const ADDED: usize = 134;
 pub const DURATION_END: usize = 198;
 
 // What a slider adds, from its first bit on, which is that of the repeats: whether a distance is given, and the distance.
-pub const IS_GIVEN: usize = 10;
+pub const REPEATS_WIDTH: usize = 10;
+
+pub const IS_GIVEN: usize = REPEATS_WIDTH;
 
 pub const DISTANCE: usize = 11;

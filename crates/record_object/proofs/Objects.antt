@@ -2,7 +2,7 @@
 use mathlib.Core.Path.{_≡_, refl, sym, ap, _∙_}
 use Prim.Native.Nat.{ℕ, zero, suc, _+_, _*_, _^_, _≤_, _<_}
 use native.Mathlib.Omega.{arith}
-use mathlib.Core.List.{List, [], _∷_}
+use mathlib.Core.List.{List, [], _∷_, _++_}
 use lib.Ieee.{Float, lt}
 use Rattle.bits.specs.Field.{bits, short}
 use Rattle.bits.specs.Laws.Fields.{bits-lt}
@@ -13,7 +13,7 @@ use Rattle.model.specs.declared.NodeSound.the-variants as NodeSound
 use Rattle.model.specs.declared.Kind.the-variants.{Hold}
 use Rattle.record.specs.Layout as At
 use Rattle.record.specs.Refusal.{_gives_, _then_, field, plain, out64, fieldRefusal, fieldsRefusal, f64At}
-use Rattle.record.specs.Object.{nodeBit, sliderEnd, distanceBy, nodeBy, kindBy, kindEnd, badSpan, spanField, coordinate, distanceFields, nodeFields, sliderFields, kindFields, startAt, objectRefusal}
+use Rattle.record.specs.Object.{nodeBit, sliderEnd, distanceBy, nodeBy, kindBy, kindEnd, badSpan, spanField, coordinate, distanceFields, nodeFields, repeatsField, sliderFields, kindFields, startAt, objectRefusal}
 use Rattle.record.specs.Laws.Row.{then-zero, then-assoc, own-two, whole-once, plain-once, fields-append}
 use Rattle.record.specs.Post.{isLong}
 
@@ -71,16 +71,18 @@ module _ (s : List ℕ) where
   node-row m (suc (suc b)) h = absurd (omega arith)
 
   pub slider-row : (q : ℕ)
-      → (short s (q + At.distance) gives Numbers.fieldNotWhole then fieldsRefusal s (distanceFields s (q + At.distance) (bits s (q + At.isGiven) 1))
+      → (fieldRefusal s (repeatsField s q) then short s (q + At.distance) gives Numbers.fieldNotWhole then fieldsRefusal s (distanceFields s (q + At.distance) (bits s (q + At.isGiven) 1))
       then short s (nodeBit s q + 1) gives Numbers.fieldNotWhole then short s (sliderEnd s q) gives Numbers.fieldNotWhole)
       ≡ fieldsRefusal s (sliderFields s q)
   unfolding sliderEnd fieldsRefusal
   slider-row q =
       let given = distanceFields s (q + At.distance) (bits s (q + At.isGiven) 1) in
       let m = nodeBit s q in
-      ap (λ (x : ℕ). short s (q + At.distance) gives Numbers.fieldNotWhole then fieldsRefusal s given then x) (node-row m (bits s m 1) (at-most (bits-lt s m 1)))
-      ∙ (ap (λ (x : ℕ). short s (q + At.distance) gives Numbers.fieldNotWhole then x) (sym (fields-append s given _))
-      ∙ two-plain q 10 (q + At.isGiven) 1 (q + At.distance) _ (omega arith) (omega arith))
+      let node = plain m 1 ∷ nodeFields (m + 1) (bits s m 1) in
+      let first = fieldRefusal s (repeatsField s q) in
+      ap (λ (x : ℕ). first then short s (q + At.distance) gives Numbers.fieldNotWhole then fieldsRefusal s given then x) (node-row m (bits s m 1) (at-most (bits-lt s m 1)))
+      ∙ (ap (λ (x : ℕ). first then short s (q + At.distance) gives Numbers.fieldNotWhole then x) (sym (fields-append s given node))
+      ∙ ap (λ (x : ℕ). first then x then fieldsRefusal s (given ++ node)) (sym (plain-end (q + At.isGiven) 1 (q + At.distance) (omega arith))))
     where
       at-most : {b : ℕ} → b < 2 ^ 1 → b ≤ 1
       at-most h = omega arith

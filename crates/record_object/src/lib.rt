@@ -5,7 +5,7 @@ ghost use Rattle.model.specs.Limits.{mostEntries};
 ghost use Rattle.bits.specs.Field.{bits};
 ghost use Rattle.record.specs.Layout as At;
 ghost use Rattle.record.specs.Refusal.{fieldRefusal, fieldsRefusal};
-ghost use Rattle.record.specs.Object.{nodeBit, sliderEnd, distanceBy, nodeBy, sliderAt, kindBy, spanField, coordinate, distanceFields, sliderFields, kindFields, readObject, objectEnd, readAt, objectRefusal, scan};
+ghost use Rattle.record.specs.Object.{nodeBit, sliderEnd, distanceBy, nodeBy, sliderAt, kindBy, spanField, coordinate, distanceFields, repeatsField, sliderFields, kindFields, readObject, objectEnd, readAt, objectRefusal, scan};
 ghost use Rattle.record.specs.Post.{isLong, EndBy};
 use bits::is_short;
 use bits::read_bits;
@@ -36,9 +36,9 @@ fn read_sound(s: &[u8], at: usize) -> u8
 
 fn read_repeats(s: &[u8], at: usize) -> u16
     requires { ⌜ at ≤ 1000000000 ⌝ }
-    ensures { λ r. ⌜ r ≡ bits (now (s .entry)) at 10 ⌝ }
+    ensures { λ r. ⌜ r ≡ bits (now (s .entry)) at At.repeatsWidth ⌝ }
 {
-    read_bits(s, at, 10) as u16
+    read_bits(s, at, layout::REPEATS_WIDTH) as u16
 }
 
 // Of a slider at bit `at` of its own part: the bit before the first node sound.
@@ -196,11 +196,24 @@ fn position_refusal(s: &[u8], at: usize) -> u8
     )
 }
 
+fn repeats_refusal(s: &[u8], at: usize) -> u8
+    requires { ⌜ at ≤ 900000000 ⌝ }
+    ensures { λ r. ⌜ r ≡ fieldRefusal (now (s .entry)) (repeatsField (now (s .entry)) at) ⌝ }
+{
+    let whole = refuse(
+        is_short(s, at + layout::REPEATS_WIDTH),
+        numbers::FIELD_NOT_WHOLE,
+    );
+    let many = refuse(limits::MOST_REPEATS < read_repeats(s, at), numbers::OBJECT);
+    first(whole, many)
+}
+
 fn slider_refusal(s: &[u8], at: usize) -> u8
     requires { ⌜ at ≤ 900000000 ⌝ }
     ensures { λ r. ⌜ r ≡ fieldsRefusal (now (s .entry)) (sliderFields (now (s .entry)) at) ⌝ }
 {
-    let whole = refuse(is_short(s, at + layout::DISTANCE), numbers::FIELD_NOT_WHOLE);
+    let repeats = repeats_refusal(s, at);
+    let given = refuse(is_short(s, at + layout::DISTANCE), numbers::FIELD_NOT_WHOLE);
     let distance = distance_refusal(
         s,
         at + layout::DISTANCE,
@@ -208,7 +221,7 @@ fn slider_refusal(s: &[u8], at: usize) -> u8
     );
     let node = refuse(is_short(s, node_bit(s, at) + 1), numbers::FIELD_NOT_WHOLE);
     let sound = refuse(is_short(s, slider_end(s, at)), numbers::FIELD_NOT_WHOLE);
-    first(whole, first(distance, first(node, sound)))
+    first(repeats, first(given, first(distance, first(node, sound))))
 }
 
 fn kind_refusal(s: &[u8], at: usize, kind: u64) -> u8

@@ -3,7 +3,7 @@ use Prim.Native.Nat.{ℕ, _+_, _*_, _^_, _≤_, _<_}
 use Rattle.model.specs.Limits.{mostSpans, mostNotes}
 use Rattle.mania.specs.declared.PathObjectPatternGenerator.{PathObjectPatternGenerator}
 
--- more than one column, times below 2 ^ 26, at most 1,024 spans, and a buffer of at least 2,050 words
+-- more than one column, times below 2 ^ 26, at most 300 spans, and a buffer of at least 602 words
 pub record Fits (g : PathObjectPatternGenerator) (words : ℕ) : Type 0 where
   pub low : 2 ≤ g .columns
   pub high : g .columns ≤ 9

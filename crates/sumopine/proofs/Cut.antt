@@ -6,7 +6,7 @@ use mathlib.Core.Bool.{Bool, true, false}
 use lib.Dec.{eqb}
 use lib.Ieee.{Float}
 use borrow.Author.Tests.{eqb-true, eqb-false}
-use Rattle.model.specs.Limits.{mostSpans}
+use Rattle.model.specs.Limits.{mostRepeats, mostSpans}
 use Rattle.model.specs.declared.NodeSound.{NodeSound}
 use Rattle.mania.specs.Single.{kindFits}
 use Rattle.announced.specs.declared.DistanceRange.{DistanceRange}
@@ -14,7 +14,7 @@ use Rattle.announced.specs.declared.Slider.{Slider}
 use Rattle.announced.specs.Announced.{factsOf, restRefusal, endsRefusal}
 use Rattle.announced.specs.Laws.{rest-is, small-fields}
 use Rattle.object_numbers.specs.Single.{largest8, largest16, saturate8, saturate16}
-use Rattle.object_numbers.specs.Laws.{same-test, itself, node-test, node-itself}
+use Rattle.object_numbers.specs.Laws.{same-test, same-most, itself, node-test, node-itself}
 use Rattle.sumopine.specs.Announced.{sliderOf, EndsTold}
 
 module _ (multiplier beat velocity x y start : Float) (sound repeats given node : ℕ) where
@@ -30,13 +30,13 @@ module _ (multiplier beat velocity x y start : Float) (sound repeats given node 
 
   same-rest : restRefusal cut ≡ restRefusal whole
   unfolding kindFits factsOf
-  same-rest = rw (rest-is cut, rest-is whole, same-test sound largest8 16 (omega arith), same-test repeats largest16 mostSpans (omega arith), node-test given node) refl
+  same-rest = rw (rest-is cut, rest-is whole, same-test sound largest8 16 (omega arith), same-most repeats largest16 mostRepeats (omega arith), node-test given node) refl
 
   same-slider : restRefusal cut ≡ 0 → cut ≡ whole
   same-slider e =
       let f = small-fields cut e in
       let s : saturate8 sound ≡ sound = itself sound largest8 16 (omega arith) (f .0) in
-      let r : saturate16 repeats ≡ repeats = itself repeats largest16 mostSpans (omega arith) (f .1) in
+      let r : saturate16 repeats ≡ repeats = itself repeats largest16 mostSpans (omega arith) (omega (arith, f .1)) in
       let n = node-itself given node (f .2) in
       ap (λ (k : ℕ). with-fields k (saturate16 repeats) (cut .node)) s ∙ ap (λ (k : ℕ). with-fields sound k (cut .node)) r ∙ ap (with-fields sound repeats) n
 

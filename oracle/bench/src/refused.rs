@@ -53,7 +53,7 @@ fn damaged(seed: u64, room: usize) -> Vec<(&'static str, Job)> {
 
 /// Songs that are refused at their last object.
 fn stopped(seed: u64) -> Vec<(&'static str, Job)> {
-    let late = Kind::Slider { repeats: 1023, distance: Some(131_072.0), node_sound: None };
+    let late = Kind::Slider { repeats: 299, distance: Some(131_072.0), node_sound: None };
     let good = accepted("the song of the refusals", &ending(seed, HOLD));
     let room = good.job.chart.len();
     let job = |record, room, allowance| Job { record, chart: lent_bytes(room), allowance };

@@ -117,7 +117,7 @@ pub fn by_order(seed: u64) -> [(&'static str, Song); 9] {
 
 /// The most notes that a job makes.
 pub fn largest(seed: u64) -> Song {
-    rows(seed, Order::Random, MOST, 1025)
+    rows(seed, Order::Random, MOST, 301)
 }
 
 /// Three circles to two sliders, now and then a spinner or a hold; some points and breaks.

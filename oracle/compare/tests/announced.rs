@@ -90,6 +90,7 @@ fn refused_sliders() {
             AnnouncedSlider { y: f32::NAN, ..turned },
             AnnouncedSlider { start: -0.0, ..turned },
             AnnouncedSlider { sound: 264, ..turned },
+            AnnouncedSlider { repeats: 300, ..turned },
             AnnouncedSlider { repeats: 65_536 + 5, ..turned },
             AnnouncedSlider { node_sound: Some(u32::MAX), ..turned },
         ] {

@@ -3,7 +3,7 @@
 use entry::{AnnouncedSlider, AnnouncedSong};
 
 use crate::{
-    records::{beat_length, multiplier, position, repeats, sound, velocity},
+    records::{MOST_REPEATS, beat_length, multiplier, position, repeats, sound, velocity},
     rng::Rng,
     singles::{beyond, beyond32, wide},
 };
@@ -88,7 +88,7 @@ pub fn announced_song(rng: &mut Rng) -> AnnouncedSong {
 /// About the distance that ends at the limit.
 fn last_distance(slider: &AnnouncedSlider) -> f64 {
     let beat = slider.beat_length * (100.0 / slider.velocity).clamp(10.0, 10_000.0) / 100.0;
-    let spans = f64::from(slider.repeats.min(1023)) + 1.0;
+    let spans = f64::from(slider.repeats.min(MOST_REPEATS)) + 1.0;
 
     (LAST_END - slider.start) * slider.multiplier / (0.01 * beat * spans)
 }
@@ -158,9 +158,9 @@ fn fault(rng: &mut Rng, slider: &mut AnnouncedSlider) {
         }
         7 => {
             slider.repeats = if rng.percent(50) {
-                wide(rng, 1024)
+                wide(rng, MOST_REPEATS + 1)
             } else {
-                65_536 + rng.below(1024) as u32
+                65_536 + rng.below(300) as u32
             }
         }
         8 => {

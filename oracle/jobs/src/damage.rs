@@ -1,7 +1,7 @@
 //! Records that are mostly refused, each refusal from 1 to 8 often.
 
 use crate::{
-    records::song,
+    records::{MOST_REPEATS, song},
     rng::Rng,
     song::{Field, Name, Object, Song, pack},
 };
@@ -18,14 +18,16 @@ pub fn damaged(rng: &mut Rng) -> Vec<u8> {
     let mut fields = song.fields();
     let faults = if rng.percent(25) { 2 } else { 1 };
     let mut bytes_fault = None;
+    let mut repeats_end = None;
 
     for _ in 0..faults {
-        match rng.below(16) {
+        match rng.below(17) {
             0 => set(rng, &mut fields, Name::Version),
             1 => set(rng, &mut fields, Name::KeyChoice),
             2..=7 => float(rng, &mut fields),
             8 | 9 => order(rng, &mut fields),
             10 => count(rng, &mut fields),
+            11 => repeats_end = repeats(rng, &mut fields),
             fault => bytes_fault = Some(fault),
         }
     }
@@ -33,13 +35,19 @@ pub fn damaged(rng: &mut Rng) -> Vec<u8> {
     let mut bytes = pack(&fields);
 
     match bytes_fault {
-        Some(11..=13) => cut(rng, &fields, &mut bytes),
-        Some(14) => surplus(rng, &fields, &mut bytes),
+        Some(12..=14) => cut(rng, &fields, &mut bytes),
+        Some(15) => surplus(rng, &fields, &mut bytes),
         Some(_) => {
             let bit = rng.index(bytes.len() * 8);
             bytes[bit / 8] ^= 0x80 >> (bit % 8);
         }
         None => {}
+    }
+    if let Some(end) = repeats_end
+        && rng.percent(50)
+    {
+        // Within the field, or at the end of its last byte, which is often the field's own.
+        bytes.truncate(end - rng.index(2));
     }
 
     bytes
@@ -72,7 +80,7 @@ fn extreme(rng: &mut Rng, mut song: Song) -> Song {
     };
     let later = rng.uniform(start, 16_777_215.0);
     let start = rng.pick(&[start, 16_777_215.0, later]);
-    let repeats = rng.pick(&[0, 0, 1, 3, 1023]);
+    let repeats = rng.pick(&[0, 0, 1, 3, MOST_REPEATS]);
     let distance = if rng.percent(50) {
         // A span of 10 ms a pixel, so that the limit can be met exactly.
         song.multiplier = 1.0;
@@ -220,6 +228,16 @@ fn count(rng: &mut Rng, fields: &mut [Field]) {
             _ => rng.below(1 << field.width),
         };
     }
+}
+
+/// A repeat count about the limit or above it. Gives how many bytes the record has up to the field's end.
+fn repeats(rng: &mut Rng, fields: &mut [Field]) -> Option<usize> {
+    let index = one_of(rng, fields, |field| field.name == Name::Repeats)?;
+    let most = u64::from(MOST_REPEATS);
+    fields[index].value = rng.pick(&[most - 1, most, most + 1, most + 2, 511, 512, 1023]);
+    let end: usize = fields[..=index].iter().map(|field| field.width).sum();
+
+    Some(end.div_ceil(8))
 }
 
 /// Cuts the record so that one field, of any kind, is the first that is not whole.

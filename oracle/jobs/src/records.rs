@@ -239,15 +239,18 @@ fn anywhere(rng: &mut Rng, columns: i64) -> (f32, f32) {
     })
 }
 
+/// The most repeats that are taken. The field has 10 bits.
+pub const MOST_REPEATS: u32 = 299;
+
 pub(crate) fn repeats(rng: &mut Rng) -> u32 {
     match rng.below(200) {
         0..100 => 0,
         100..160 => rng.between(1, 3) as u32,
         160..188 => rng.between(3, 12) as u32,
         188..197 => rng.between(13, 60) as u32,
-        197 => rng.between(61, 1022) as u32,
-        198 => rng.between(200, 400) as u32,
-        _ => 1023,
+        197 => rng.between(61, 250) as u32,
+        198 => rng.between(200, 299) as u32,
+        _ => MOST_REPEATS,
     }
 }
 

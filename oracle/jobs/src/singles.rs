@@ -4,7 +4,7 @@ use entry::{Kind, Single, State};
 
 use crate::{
     records::{
-        DURATIONS, GAPS, SEGMENTS, beat_length, multiplier, position, repeats, slider, sound,
+        DURATIONS, GAPS, MOST_REPEATS, SEGMENTS, beat_length, multiplier, position, repeats, slider, sound,
         velocity,
     },
     rng::Rng,
@@ -269,8 +269,8 @@ pub fn single(rng: &mut Rng) -> (Single, usize) {
         0 => rng.index(18),
         1 => 17 * rng.index(6),
         2 => rng.index(300),
-        // Room for two notes at each of 1,025 nodes.
-        _ => 17 * 2050 + rng.index(20),
+        // Room for two notes at each of 301 nodes.
+        _ => 17 * 602 + rng.index(20),
     };
 
     (single, buffer)
@@ -367,7 +367,8 @@ fn fault(rng: &mut Rng, ask: &mut Single) {
             };
         }
         19 => {
-            let repeats = wide(rng, 1023);
+            let large = wide(rng, MOST_REPEATS);
+            let repeats = rng.pick(&[large, MOST_REPEATS + 1, 1023]);
             ask.kind = Kind::Slider {
                 repeats,
                 distance: Some(10.0),
@@ -385,7 +386,7 @@ fn fault(rng: &mut Rng, ask: &mut Single) {
         // An end beyond the limit, or near it.
         _ => {
             let distance = Some(rng.pick(&[131_072.0, 60_000.0, 10_000.0]));
-            let repeats = rng.pick(&[0, 1, 100, 1023]);
+            let repeats = rng.pick(&[0, 1, 100, MOST_REPEATS]);
             ask.beat_length = rng.pick(&[60_000.0, 1000.0, 10_000.0]);
             ask.kind = Kind::Slider {
                 repeats,

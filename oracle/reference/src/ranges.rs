@@ -12,6 +12,9 @@ pub const START: RangeInclusive<f64> = 0.0..=16_777_215.0;
 pub const DURATION: RangeInclusive<f64> = 0.0..=16_777_215.0;
 pub const DISTANCE: RangeInclusive<f64> = 0.0..=131_072.0;
 
+/// Repeats of a slider, of the 10 bits that a record has for them (document 02, change request 4).
+pub const MOST_REPEATS: u32 = 299;
+
 /// The last instant of a slider or of a chart.
 pub const LAST: f64 = 33_554_431.0;
 

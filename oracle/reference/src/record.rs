@@ -14,8 +14,8 @@ use crate::{
         hit_object::{HitObject, HitObjectKind, HoldNote, Slider, Spinner},
     },
     ranges::{
-        BEAT_LENGTH, DISTANCE, DURATION, MULTIPLIER, POSITION, SETTING, START, TIME, VELOCITY,
-        within32, within64,
+        BEAT_LENGTH, DISTANCE, DURATION, MOST_REPEATS, MULTIPLIER, POSITION, SETTING, START, TIME,
+        VELOCITY, within32, within64,
     },
 };
 
@@ -78,6 +78,12 @@ impl Fields<'_> {
         if start_time <= end_time { Ok(BreakPeriod { start_time, end_time }) } else { Err(5) }
     }
 
+    fn repeats(&mut self) -> Result<usize, Refusal> {
+        let repeats = self.next(10)?;
+
+        if repeats <= MOST_REPEATS.into() { Ok(repeats as usize) } else { Err(6) }
+    }
+
     fn object(&mut self, before: f64) -> Result<(HitObject, HitSoundType), Refusal> {
         let kind = self.next(2)?;
         let sound = self.sound()?;
@@ -92,7 +98,7 @@ impl Fields<'_> {
         let kind = match kind {
             0 => HitObjectKind::Circle,
             1 => {
-                let repeats = self.next(10)? as usize;
+                let repeats = self.repeats()?;
                 let expected_dist =
                     if self.flag()? { Some(self.float64(DISTANCE, 6)?) } else { None };
                 let node_sounds =

@@ -21,7 +21,8 @@ use crate::{
         hit_object::{HitObject, HitObjectKind, HoldNote, Slider, Spinner},
     },
     ranges::{
-        BEAT_LENGTH, DISTANCE, DURATION, MULTIPLIER, POSITION, START, VELOCITY, within32, within64,
+        BEAT_LENGTH, DISTANCE, DURATION, MOST_REPEATS, MULTIPLIER, POSITION, START, VELOCITY,
+        within32, within64,
     },
     stop::{ends_too_late, guarded},
     util::random::osu::{DRAWS, Random},
@@ -52,7 +53,7 @@ fn check(ask: &Single) -> Result<(), u8> {
     let kind_fits = match ask.kind {
         Kind::Circle => true,
         Kind::Slider { repeats, distance, node_sound } => {
-            repeats < 1 << 10
+            repeats <= MOST_REPEATS
                 && distance.is_none_or(|distance| within64(distance, &DISTANCE))
                 && node_sound.is_none_or(|sound| sound < 16)
         }

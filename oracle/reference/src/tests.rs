@@ -362,6 +362,12 @@ fn refusal_6() {
     assert_eq!(one(|o| o.start = -0.0), 6);
     assert_eq!(one(|o| o.start = 16_777_216.0), 6);
     assert_eq!(one(|o| o.kind = slider(0, 131_072.5)), 6);
+    assert_eq!(one(|o| o.kind = slider(299, 1.0)), 0);
+    assert_eq!(one(|o| o.kind = slider(300, 1.0)), 6);
+    // The repeats are refused before the distance's bit is looked for, but not before they are whole.
+    let many = Song { objects: vec![object(0.0, slider(300, 1.0))], ..plain() }.bytes();
+    assert_eq!(refusal(&many[..50], 8, 0).0, 6);
+    assert_eq!(refusal(&many[..49], 8, 0).0, 1);
     assert_eq!(one(|o| o.kind = hold(-0.0)), 6);
     assert_eq!(one(|o| o.kind = Kind::Spinner { duration: f64::INFINITY }), 6);
 }
@@ -527,7 +533,10 @@ fn refusal_13_and_order_of_single() {
     assert_eq!(single_number(&Single { prev_time: f64::INFINITY, ..good }), 6);
     assert_eq!(single_number(&Single { prev_time: -0.0, density: -0.0, ..good }), 0);
     assert_eq!(single_number(&Single { density: f64::NAN, ..good }), 6);
-    assert_eq!(single_number(&Single { kind: slider(1024, 0.0), ..good }), 6);
+    assert_eq!(single_number(&Single { kind: slider(299, 0.0), ..good }), 0);
+    for repeats in [300, 1023, 1024, u32::MAX] {
+        assert_eq!(single_number(&Single { kind: slider(repeats, 0.0), ..good }), 6);
+    }
     let node = Kind::Slider { repeats: 0, distance: None, node_sound: Some(16) };
     assert_eq!(single_number(&Single { kind: node, ..good }), 6);
 }
@@ -948,7 +957,7 @@ fn some_ask(dice: &mut Dice) -> Single {
         1 => Kind::Spinner { duration },
         2 => Kind::Hold { duration },
         _ => Kind::Slider {
-            repeats: dice.of(&[0, 0, 1, 2, 5, 8, 1023]),
+            repeats: dice.of(&[0, 0, 1, 2, 5, 8, 299, 300]),
             distance: (dice.below(9) > 0)
                 .then(|| dice.of(&[1.0, 9.0, 11.0, 14.0, 18.0, 100.0, 131_072.0]))
                 .map(|distance| distance * dice.of(&[1.0, 0.9, 0.1])),

@@ -9,7 +9,7 @@ use crate::{
     ended,
     hits::{B, hit},
     pattern::{Note, Previous},
-    record::{self, Distance, Kind, NodeSound, Object, Song},
+    record::{self, Distance, Kind, MOST_REPEATS, NodeSound, Object, Song},
     refusal::Refusal,
     slider::{Pace, Slider, Times},
 };
@@ -346,7 +346,7 @@ pub fn checked(single: &Single) -> Result<Ask, Refusal> {
             distance,
             node_sound,
         } => {
-            demand(repeats <= 1023, B::single_repeats, Refusal::ObjectField)?;
+            demand(repeats <= MOST_REPEATS, B::single_repeats, Refusal::ObjectField)?;
             Kind::Slider {
                 repeats,
                 distance: distance.map_or(Distance::Missing, Distance::Given),

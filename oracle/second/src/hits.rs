@@ -65,6 +65,7 @@ branches! {
     cut_duration
     out_duration
     cut_repeats
+    out_repeats
     cut_distance_bit
     cut_distance
     out_distance

@@ -16,6 +16,9 @@ pub const fn has(sound: u8, flag: u8) -> bool {
     sound & flag != 0
 }
 
+/// The largest repeat count (document 02, change request 4), though its field has 10 bits.
+pub const MOST_REPEATS: u32 = 299;
+
 /// The largest time of a field.
 pub const LAST_TIME: f64 = 16_777_215.0;
 
@@ -53,7 +56,7 @@ pub struct Object {
 }
 
 impl Object {
-    /// Every float is in its range. Sounds and repeats are so by their fields' widths.
+    /// Every float is in its range. Sounds are so by their fields' widths, and repeats are checked where they are read.
     pub fn in_range(&self) -> bool {
         position(self.x)
             && position(self.y)
@@ -216,6 +219,7 @@ impl Reader<'_> {
 
     fn slider(&mut self) -> Result<Kind, Refusal> {
         let repeats = self.field(10, B::cut_repeats)? as u32;
+        demand(repeats <= MOST_REPEATS, B::out_repeats, Refusal::ObjectField)?;
 
         let distance = if self.field(1, B::cut_distance_bit)? == 1 {
             let given = self.double(B::cut_distance)?;

@@ -417,6 +417,22 @@ fn refusal_6() {
         })),
         refused(6, 0, 0)
     );
+    // The repeats come before the bit of the distance, once they are whole.
+    let many = Song {
+        objects: vec![Object {
+            kind: Kind::Slider {
+                repeats: 300,
+                distance: Some(1.0),
+                node_sound: None,
+            },
+            ..CIRCLE
+        }],
+        ..Song::default()
+    }
+    .bytes();
+    assert_eq!(run_bytes(&many), refused(6, 0, 0));
+    assert_eq!(run_bytes(&many[..50]), refused(6, 0, 0));
+    assert_eq!(run_bytes(&many[..49]), refused(1, 0, 0));
     // The order of starts comes before the wholeness of a duration.
     let bytes = falling(hold(4.0, 100.0)).bytes();
     assert_eq!(run_bytes(&bytes[..bytes.len() - 4]), refused(6, 0, 0));
@@ -642,7 +658,7 @@ fn single_refusals_4_5_and_6() {
     };
     assert_eq!(
         single_refused(&Single {
-            kind: slider(1024, 0),
+            kind: slider(300, 0),
             ..ask()
         }),
         6
@@ -656,7 +672,7 @@ fn single_refusals_4_5_and_6() {
     );
     assert_eq!(
         single_refused(&Single {
-            kind: slider(1023, 15),
+            kind: slider(299, 15),
             ..ask()
         }),
         0

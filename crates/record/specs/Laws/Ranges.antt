@@ -7,8 +7,8 @@ use mathlib.Core.List.{List}
 use lib.Dec.{T}
 use lib.Ieee.{Float, Format, binary32, binary64, lt}
 use lib.Ieee.Bits.{ofBits-fits}
-use borrow.Author.Tests.{not-false}
-use Rattle.model.specs.Limits.{Range, mostEntries, mostBreaks, settingRange, multiplierRange, timeRange, beatRange, velocityRange, spanRange, coordinateRange, distanceRange}
+use borrow.Author.Tests.{not-false, ltb-false}
+use Rattle.model.specs.Limits.{Range, mostRepeats, mostEntries, mostBreaks, settingRange, multiplierRange, timeRange, beatRange, velocityRange, spanRange, coordinateRange, distanceRange}
 use Rattle.bits.specs.Field.{bits}
 use Rattle.bits.specs.Laws.Fields.{bits-lt}
 use Rattle.floats.specs.Range.{within, float}
@@ -104,9 +104,10 @@ module _ (s : List ℕ) where
   slider-fit : (q : ℕ) → fieldsRefusal s (sliderFields s q) ≡ 0 → FitKind (sliderAt s q)
   unfolding fieldsRefusal sliderAt
   slider-fit q h =
-      let a = then-none _ _ (then-none _ _ h .1) .1 in
-      let d = then-none _ _ (sym (fields-append s (distanceFields s (q + At.distance) (bits s (q + At.isGiven) 1)) _) ∙ a) in
-      (bits-lt s q 10, distance-fit (q + At.distance) (bits s (q + At.isGiven) 1) (d .0), node-fit (nodeBit s q + 1) (bits s (nodeBit s q) 1))
+      let r = then-none _ _ h in
+      let few = ltb-false mostRepeats (bits s q At.repeatsWidth) (gives-none _ 5 (then-none _ _ (r .0) .1)) in
+      let d = then-none _ _ (sym (fields-append s (distanceFields s (q + At.distance) (bits s (q + At.isGiven) 1)) _) ∙ then-none _ _ (r .1) .1) in
+      (few, distance-fit (q + At.distance) (bits s (q + At.isGiven) 1) (d .0), node-fit (nodeBit s q + 1) (bits s (nodeBit s q) 1))
 
   kind-fit : (q k : ℕ) → fieldsRefusal s (kindFields s q k) ≡ 0 → FitKind (kindBy s q k)
   unfolding fieldsRefusal kindBy

@@ -254,7 +254,7 @@ module _ (s : List ℕ) where
   kind-gives : (q k : ℕ) → Each (Gives Numbers.object) (kindFields s q k)
   kind-gives q zero = tt
   kind-gives q (suc zero) =
-      (inl refl, (inl refl, each-append (Gives Numbers.object) (distanceFields s (q + At.distance) (bits s (q + At.isGiven) 1)) _ (distance-gives (q + At.distance) (bits s (q + At.isGiven) 1)) (inl refl, node-gives (nodeBit s q + 1) (bits s (nodeBit s q) 1))))
+      (gives-or _ Numbers.object, (inl refl, each-append (Gives Numbers.object) (distanceFields s (q + At.distance) (bits s (q + At.isGiven) 1)) _ (distance-gives (q + At.distance) (bits s (q + At.isGiven) 1)) (inl refl, node-gives (nodeBit s q + 1) (bits s (nodeBit s q) 1))))
   kind-gives q (suc (suc k)) = (gives-or _ Numbers.object, tt)
 
   object-gives : (p : ℕ) (before : Float) → Each (Gives Numbers.object) (objectFields s p before)

@@ -5,6 +5,9 @@ use borrow.Author.Needs.{needs}
 use Rattle.record_object.proofs.slider_refusal.Statement.{statement}
 use Rattle.record_object.proofs.slider_refusal.Tie as tie
 
+repeats-refusal-requires : tie.Need-repeats-refusal-requires
+repeats-refusal-requires c κs = search needs
+
 add-is-short : tie.Need-add-is-short
 add-is-short c = search needs
 
@@ -56,13 +59,17 @@ first-requires-2 c κs = search needs
 first-requires-3 : tie.Need-first-requires-3
 first-requires-3 c κs = search needs
 
+first-requires-4 : tie.Need-first-requires-4
+first-requires-4 c κs = search needs
+
 returns : tie.Need-returns
-returns c = rw (c .first3 .ensures, c .before .first2 .ensures, c .before .before .first .ensures, c .before .before .before .refuse3 .ensures, c .before .before .before .before .is-short3 .ensures, c .before .before .before .before .before .slider-end .ensures .0, c .before .before .before .before .before .before .refuse2 .ensures, c .before .before .before .before .before .before .before .is-short2 .ensures, c .before .before .before .before .before .before .before .before .node-bit .ensures .0, c .before .before .before .before .before .before .before .before .before .distance-refusal .ensures, c .before .before .before .before .before .before .before .before .before .before .read-flag .ensures .0, c .before .before .before .before .before .before .before .before .before .before .before .refuse .ensures, c .before .before .before .before .before .before .before .before .before .before .before .before .is-short .ensures) (slider-row _ _)
+returns c = rw (c .first4 .ensures, c .before .first3 .ensures, c .before .before .first2 .ensures, c .before .before .before .first .ensures, c .before .before .before .before .refuse3 .ensures, c .before .before .before .before .before .is-short3 .ensures, c .before .before .before .before .before .before .slider-end .ensures .0, c .before .before .before .before .before .before .before .refuse2 .ensures, c .before .before .before .before .before .before .before .before .is-short2 .ensures, c .before .before .before .before .before .before .before .before .before .node-bit .ensures .0, c .before .before .before .before .before .before .before .before .before .before .distance-refusal .ensures, c .before .before .before .before .before .before .before .before .before .before .before .read-flag .ensures .0, c .before .before .before .before .before .before .before .before .before .before .before .before .refuse .ensures, c .before .before .before .before .before .before .before .before .before .before .before .before .before .is-short .ensures, c .before .before .before .before .before .before .before .before .before .before .before .before .before .before .repeats-refusal .ensures) (slider-row _ _)
 
 pub slider-refusal-spec : {M : Type 1} → statement M
 slider-refusal-spec =
     tie.close
     (tie.spec
+    repeats-refusal-requires
     add-is-short
     is-short-requires
     refuse-requires
@@ -80,4 +87,5 @@ slider-refusal-spec =
     first-requires
     first-requires-2
     first-requires-3
+    first-requires-4
     returns)

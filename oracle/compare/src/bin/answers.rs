@@ -75,7 +75,7 @@ fn job(song: &Song, buffer: usize, allowance: u32) -> Job {
     Job { record: song.bytes(), buffer: lent_bytes(buffer), allowance }
 }
 
-/// Long sliders: the latest end that is taken and the first that is not, and the longest row of notes.
+/// Long sliders: the latest end that is taken and the first that is not.
 fn long_sliders() -> Vec<Job> {
     let mut list = Vec::new();
     for columns in [4, 8] {
@@ -84,12 +84,51 @@ fn long_sliders() -> Vec<Job> {
         list.push(job(&song(slider(16_777_215.0, 0, 131_072.0)), 400, 100));
         list.push(job(&song(slider(16_777_215.0, 127, 13_107.2)), 400, 100));
         list.push(job(&song(slider(16_777_215.0, 127, 13_107.3)), 400, 100));
-        list.push(job(&song(slider(0.0, 1023, 10.0)), 8 + 17 * 1100, 5000));
         let slow = Song { timing: vec![(0.0, 60_000.0)], difficulty: vec![(0.0, 0.1)], ..song(slider(0.0, 0, 131_072.0)) };
         list.push(job(&slow, 400, 100));
     }
 
     list
+}
+
+/// Repeat counts up to the limit and above it, in a record that is whole, that ends right after the repeats, and that ends inside them, with
+/// the number due.
+fn many_repeats() -> Vec<(Job, u8)> {
+    let mut list = Vec::new();
+    for (repeats, due) in [(298, [0, 1, 1]), (299, [0, 1, 1]), (300, [6, 6, 1]), (1023, [6, 6, 1])] {
+        let song = Song { key_choice: 4, objects: vec![slider(0.0, repeats, 10.0)], ..Song::default() };
+        let whole = job(&song, 8 + 17 * 301, 1000);
+        // the first object begins at byte 32, and its repeats end 144 bits later
+        for (length, number) in [whole.record.len(), 50, 49].into_iter().zip(due) {
+            list.push((Job { record: whole.record[..length].to_vec(), buffer: whole.buffer.clone(), allowance: whole.allowance }, number));
+        }
+    }
+
+    list
+}
+
+fn refused_when_many(list: Vec<(Job, u8)>) -> impl Iterator<Item = Answered> {
+    list.into_iter().map(|(job, due)| {
+        let answered = Answered::new(job);
+        let number = if let JobEnd::Refused { number, .. } = answered.end { number } else { 0 };
+        assert_eq!(number, due, "a repeat count is not refused as it should be");
+        answered
+    })
+}
+
+/// The most notes of an object, two in each of 301 rows, after two circles a second before, which raise the difficulty above 3.
+fn most_notes() -> Vec<Job> {
+    let circle = Object { kind: Kind::Circle, sound: 0, x: 100.0, y: 100.0, start: 0.0 };
+    let objects = vec![circle, circle, slider(1000.0, 299, 18.0)];
+    let song = |columns| Song { key_choice: columns, hp: 10.0, ar: 7.0, objects: objects.clone(), ..Song::default() };
+
+    [3, 9].map(|columns| job(&song(columns), 8 + 17 * 700, 1000)).into()
+}
+
+/// Sees that the slider has 602 notes: all but those that start at 0.
+fn has_most_notes(answered: &Answered) {
+    let later = answered.chart[8..].chunks(17).filter(|note| note[1..9] != [0; 8]).count();
+    assert_eq!(later, 602, "the slider has not two notes in each row");
 }
 
 /// Two circles whose separation has document 02's sums of squares: 400, 400 − 2^−15, whose root is 20, and 400 − 2^−14, whose root is less. Only the
@@ -147,6 +186,10 @@ fn main() -> ExitCode {
     let mut list: Vec<Answered> = rulers().into_iter().map(Answered::new).collect();
     differ_where_near(&list);
     list.extend(long_sliders().into_iter().map(Answered::new));
+    list.extend(refused_when_many(many_repeats()));
+    let most: Vec<Answered> = most_notes().into_iter().map(Answered::new).collect();
+    most.iter().for_each(has_most_notes);
+    list.extend(most);
     let tried: Vec<Answered> = (0..TRIES).filter_map(|_| random(&mut rng, &mut plenty)).map(Answered::new).collect();
     let sizes: Vec<usize> = tried.iter().map(|answered| answered.bytes().len()).collect();
     let mut met = vec![false; rows];

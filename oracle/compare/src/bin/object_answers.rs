@@ -1,7 +1,9 @@
 //! Writes the single objects that the program `vectors` replays, with the unchanged Rust's answers. Arguments: the file, the seed (1).
 //!
 //! First a hold whose own column and every draw of its search fall on a taken column, under allowances up to and beyond the limit of a
-//! search; then random objects, so many of each answer. A file is its objects one after the other, as `compare::entry` makes them.
+//! search; then a slider with repeat counts about their limit, of which 299 make the most notes that an object makes, 602, in a buffer that
+//! has room for them and in one that is a byte shorter; then random objects, so many of each answer. A file is its objects one after the
+//! other, as `compare::entry` makes them.
 //! What goes in: the parameters of `sumopine_object` up to the duration, in their order, and the four words of the state; flags and the kind
 //! have 32 bits, mask and repeats 16, last column, columns and sounds 8. The numbers: the buffer's length, the allowance, number (0: made),
 //! count, mask, last column, stair, state and draws. What is due are the notes. Buffers are lent as `lent_bytes` makes them.
@@ -16,9 +18,13 @@ use jobs::Rng;
 const MADE: usize = 120;
 /// Of each refusal.
 const REFUSED: usize = 12;
+/// Of a random object.
 const MOST_NOTES: u32 = 40;
 /// The refusals of the single-object entry.
 const REFUSALS: [u8; 10] = [4, 5, 6, 8, 9, 10, 11, 12, 13, 16];
+/// Repeats, the buffer's length, and what is due: the number and the count of notes.
+const REPEATS: [(u32, usize, (u8, u32)); 5] =
+    [(298, 17 * 602, (0, 600)), (299, 17 * 602, (0, 602)), (299, 17 * 602 - 1, (11, 0)), (300, 17 * 602, (6, 0)), (1023, 17 * 602, (6, 0))];
 const ALLOWANCES: [u32; 7] = [0, 1, 4095, 4096, 4097, 4098, 1_000_000];
 
 /// The generator gives only zeros, so that every column drawn is the first, which is taken.
@@ -44,6 +50,18 @@ fn stuck(allowance: u32) -> Single {
         columns: 4,
         state: State { x: 0, y: 0, z: 0, w: 0 },
         allowance,
+    }
+}
+
+/// Spans of 180 ms and a difficulty above 3: two notes in each row.
+fn rows(repeats: u32) -> Single {
+    Single {
+        kind: Kind::Slider { repeats, distance: Some(18.0), node_sound: None },
+        difficulty: 3.5,
+        beat_length: 1000.0,
+        prev_mask: 0,
+        state: State { x: 0, y: 842_502_087, z: 3_579_807_591, w: 273_326_509 },
+        ..stuck(1000)
     }
 }
 
@@ -95,8 +113,8 @@ fn input(ask: &Single) -> Option<Vec<u8>> {
     Some(fields.into_iter().collect::<Option<Vec<_>>>()?.concat())
 }
 
-/// An object's answer: its number (0: made) and its entry, where it can be recorded.
-fn answered(ask: &Single, length: usize) -> Option<(u8, Vec<u8>)> {
+/// An object's answer: its number (0: made), how many notes it has, and its entry, where it can be recorded.
+fn answered(ask: &Single, length: usize) -> Option<(u8, u32, Vec<u8>)> {
     let input = input(ask)?;
     let (mut notes, mut other) = (lent_bytes(length), lent_bytes(length));
     let end = reference::single(ask, &mut notes);
@@ -107,7 +125,7 @@ fn answered(ask: &Single, length: usize) -> Option<(u8, Vec<u8>)> {
     };
     let numbers = [length as u32, ask.allowance, number.into(), count, mask, last, stair, x, y, z, w, draws];
 
-    (count <= MOST_NOTES).then(|| (number, entry(&input, &numbers, &notes[..17 * count as usize])))
+    Some((number, count, entry(&input, &numbers, &notes[..17 * count as usize])))
 }
 
 fn main() -> ExitCode {
@@ -121,15 +139,21 @@ fn main() -> ExitCode {
     let mut bytes = Vec::new();
 
     for allowance in ALLOWANCES {
-        let (number, entry) = answered(&stuck(allowance), 100).expect("its numbers fit");
+        let (number, _, entry) = answered(&stuck(allowance), 100).expect("its numbers fit");
+        kept[usize::from(number)] += 1;
+        bytes.extend(entry);
+    }
+    for (repeats, length, due) in REPEATS {
+        let (number, count, entry) = answered(&rows(repeats), length).expect("its numbers fit");
+        assert_eq!((number, count), due, "{repeats} repeats");
         kept[usize::from(number)] += 1;
         bytes.extend(entry);
     }
     while kept[0] < MADE || REFUSALS.iter().any(|number| kept[usize::from(*number)] < REFUSED) {
         let (ask, length) = if rng.percent(50) { jobs::single(&mut rng) } else { jobs::damaged_single(&mut rng) };
-        let Some((number, entry)) = answered(&ask, length) else { continue };
+        let Some((number, count, entry)) = answered(&ask, length) else { continue };
         let number = usize::from(number);
-        if kept[number] < if number == 0 { MADE } else { REFUSED } {
+        if count <= MOST_NOTES && kept[number] < if number == 0 { MADE } else { REFUSED } {
             kept[number] += 1;
             bytes.extend(entry);
         }
