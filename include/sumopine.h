@@ -63,6 +63,9 @@ enum {
  * 0            the chart's bytes  0                   the draws made       the most draws of one search  the chart; later bytes keep their values
  * 1 to 12, 16  0                  the object's index  the draws made       0                             all zero
  *
+ * The chart's notes stand in the order of their starts, of equal starts the lowest column first; notes of equal start and column stand in the
+ * order in which the objects make them.
+ *
  * The object's index counts from 0, and is 0 where the record is refused (1 to 7) or the buffer is under 8 bytes (11). 9 and 10 are never
  * returned: no song comes to them, only `sumopine_object` with a previous pattern of the caller's making. The record is only read.
  *
@@ -77,7 +80,7 @@ uint32_t sumopine_convert(const uint8_t *record, size_t record_len, uint8_t *cha
  * 0         1 to 9    the number of notes the draws of its job
  * 14        0         0                   0
  *
- * The chart is only read. */
+ * Starts do not fall, and of neighbours with equal starts the later column is not lower; else 14. The chart is only read. */
 uint32_t sumopine_read_chart(const uint8_t *chart, size_t chart_len, uint32_t *columns, uint32_t *notes, uint32_t *draws);
 
 /* The fields of the note with this index, counted from 0. It checks only that the bytes go on to the note's end.
@@ -132,7 +135,8 @@ uint32_t sumopine_nearest_note(const uint8_t *chart, size_t chart_len, uint32_t 
 /* Kinds of an object. */
 enum { SUMOPINE_CIRCLE = 0, SUMOPINE_SLIDER = 1, SUMOPINE_SPINNER = 2, SUMOPINE_HOLD = 3 };
 
-/* Converts one object, with at most `allowance` draws, and writes its notes, 17 bytes each, from the start of the notes buffer.
+/* Converts one object, with at most `allowance` draws, and writes its notes as it makes them, not sorted, 17 bytes each, from the start of the
+ * notes buffer.
  *
  * The facts:           difficulty, multiplier, beat length, velocity, kiai (a flag) and density.
  * The previous values: time, position, mask and last column of the previous pattern, and its stair, 0 or, for a reverse one, any other.

@@ -18,6 +18,7 @@ use Rattle.chart.specs.Tests.{every}
 use Rattle.floats.specs.Ticks.{ticks}
 use Rattle.chart.specs.Time.{time, isTime, latest}
 use Rattle.chart.specs.Bytes.{be, num}
+use Rattle.chart.specs.Order.{rank}
 
 -- ---- the bytes of a chart
 
@@ -56,14 +57,15 @@ unfoldable pub lasts : Bool → ℕ → Bool
 lasts true d = ltb 0 (ticks (time d))
 lasts false d = eqb d 0
 
--- whether a note may stand in a chart of so many columns, after a note that starts at `last`: its column is one of them; its times are from 0,
--- with no NaN, infinity or negative zero; starts do not fall; and start plus duration, exact, is at most 33,554,431
+-- whether a note may stand in a chart of so many columns, after a note of rank `last`: its column is one of them; its times are from 0, with no NaN,
+-- infinity or negative zero; starts do not fall, and of equal starts the column does not; and start plus duration, exact, is at most 33,554,431.
+-- Both starts are times, whose patterns order as they do (`ticks-leb`).
 unfoldable pub noteTests : ℕ → ℕ → Note → List Bool
 noteTests columns last n =
     ltb (n .column) columns
     ∷ isTime (time (n .start))
     ∷ isTime (time (n .duration))
-    ∷ leb (ticks (time last)) (ticks (time (n .start)))
+    ∷ leb last (rank n)
     ∷ lasts (n .hold) (n .duration)
     ∷ leb (ticks (time (n .start)) + ticks (time (n .duration))) latest
     ∷ []
@@ -73,7 +75,7 @@ okNote columns last n = every (noteTests columns last n)
 
 unfoldable pub okNotes : ℕ → ℕ → List Note → Bool
 okNotes columns last [] = true
-okNotes columns last (n ∷ ns) = okNote columns last n && okNotes columns (n .start) ns
+okNotes columns last (n ∷ ns) = okNote columns last n && okNotes columns (rank n) ns
 
 -- what encode is meant for: a chart that keeps the rule, with numbers that fit their fields
 pub record Well (columns draws : ℕ) (ns : List Note) : Type 0 where
@@ -89,7 +91,7 @@ okRow columns last s = eqb (getD s 0 0 % 8) 0 && okNote columns last (noteOf s)
 
 unfoldable pub okRows : ℕ → ℕ → ℕ → List ℕ → Bool
 okRows columns last zero s = true
-okRows columns last (suc k) s = okRow columns last s && okRows columns (noteOf s .start) k (drop noteSize s)
+okRows columns last (suc k) s = okRow columns last s && okRows columns (rank (noteOf s)) k (drop noteSize s)
 
 -- the fields of the header
 unfoldable pub columnsOf : List ℕ → ℕ

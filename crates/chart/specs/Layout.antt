@@ -11,6 +11,10 @@ noteSize = 17
 abbrev pub chartSize : ℕ → ℕ
 chartSize n = headerSize + noteSize * n
 
+-- the values of a note's column, which has 4 bits
+abbrev pub columnValues : ℕ
+columnValues = 16
+
 -- notes of a chart: their count has 24 bits
 abbrev pub mostInChart : ℕ
 mostInChart = 16777215

@@ -15,6 +15,7 @@ use Rattle.chart.specs.declared.Note.{Note}
 use Rattle.chart.specs.Bytes.{Bytes, be, num}
 use Rattle.chart.specs.Tests.{every, both, passes}
 use Rattle.chart.specs.Chart.{noteBytes, body, header, encode, noteOf, notesOf, headTests, okNote, okNotes, okRow, okRows, okHead, okChart, Well, Score, scoreOf, decode, columnsOf, countOf, drawsOf}
+use Rattle.chart.specs.Order.{rank}
 use Rattle.chart.specs.Laws.Bytes.{bytes-drop, num-be, be-num, num-fits}
 use Rattle.chart.specs.Laws.Notes.{note-back, row-back, kind-first, length-body, length-notesOf}
 use Rattle.chart.specs.Laws.Reader.{note-fits, read-score}
@@ -22,7 +23,7 @@ use Rattle.chart.specs.Laws.Reader.{note-fits, read-score}
 -- ---- from a chart to its bytes and back
 
 rows-step : (c l k : ℕ) (s : List ℕ) (n : Note) → noteOf s ≡ n → getD s 0 0 % 8 ≡ 0 → okNote c l n ≡ true
-    → okRows c l (suc k) s ≡ okRows c (n .start) k (drop noteSize s)
+    → okRows c l (suc k) s ≡ okRows c (rank n) k (drop noteSize s)
 unfolding okRows okRow
 rows-step c l k s n e z h = rw (z, e, h)
 
@@ -30,10 +31,10 @@ rows-back : (c l : ℕ) (ns : List Note) → okNotes c l ns ≡ true → (okRows
 unfolding okNotes okRows body notesOf noteBytes be
 rows-back c l [] h = (refl, refl)
 rows-back c l (n ∷ ns) h =
-    let here = both (okNote c l n) (okNotes c (n .start) ns) h in
+    let here = both (okNote c l n) (okNotes c (rank n) ns) h in
     let fit = note-fits c l n (here .0) in
     let back : noteOf (noteBytes n ++ body ns) ≡ n = note-back n (body ns) (omega arith) (omega arith) in
-    let rest = rows-back c (n .start) ns (here .1) in (
+    let rest = rows-back c (rank n) ns (here .1) in (
       rows-step c l (length ns) (noteBytes n ++ body ns) n back (kind-first (n .column) (n .hold) .1 .1) (here .0) ∙ rest .0,
       ap₂ (λ (a : Note) (b : List Note). a ∷ b) back (rest .1),
     )
@@ -59,9 +60,9 @@ unfolding okRows okRow okNotes notesOf body
 rows-are c l zero [] e h ok = (refl, refl)
 rows-are c l zero (a ∷ s) e h ok = absurd (omega arith)
 rows-are c l (suc k) s e h ok =
-    let here = both (okRow c l s) (okRows c (noteOf s .start) k (drop noteSize s)) ok in
+    let here = both (okRow c l s) (okRows c (rank (noteOf s)) k (drop noteSize s)) ok in
     let row = both (eqb (getD s 0 0 % 8) 0) (okNote c l (noteOf s)) (here .0) in
-    let rest = rows-are c (noteOf s .start) k (drop noteSize s) (rw (length-drop noteSize s) (omega arith)) (bytes-drop noteSize s h) (here .1) in
+    let rest = rows-are c (rank (noteOf s)) k (drop noteSize s) (rw (length-drop noteSize s) (omega arith)) (bytes-drop noteSize s h) (here .1) in
     (row-back s (omega arith) h (eqb-true _ 0 (row .0)) ∙ ap (λ (t : List ℕ). noteBytes (noteOf s) ++ t) (rest .0), rw (row .1) (rest .1))
 
 head-back : (s : List ℕ) → 8 ≤ length s → Bytes s → getD s 0 0 / 16 ≡ 1 → s ≡ header (columnsOf s) (countOf s) (drawsOf s) ++ drop 8 s

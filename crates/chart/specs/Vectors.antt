@@ -1,7 +1,7 @@
 -- Worked examples, computed. Assumes nothing.
 use mathlib.Core.Path.{_≡_, refl}
 use mathlib.Core.Bool.{true, false}
-use mathlib.Core.List.{List, [], _∷_}
+use mathlib.Core.List.{List, [], _∷_, _++_}
 use Prim.Native.Nat.{ℕ, _^_, _*_}
 use lib.Ieee.{ofBits, le, lt, eq}
 use Rattle.rules.specs.Numbers as Numbers
@@ -39,7 +39,7 @@ unfolding encode header body noteBytes be hold bytes
 hold-bytes = refl
 
 hold-read : reading bytes ≡ accepted 9 1 1
-unfolding reading readingOf decode scoreOf okChart okHead headTests every columnsOf countOf drawsOf notesOf noteOf okRows okRow okNote noteTests lasts isTime inRange le lt eq ticks ofBits num bytes
+unfolding reading readingOf decode scoreOf okChart okHead headTests every columnsOf countOf drawsOf notesOf noteOf okRows okRow okNote noteTests lasts isTime inRange le lt eq ticks ofBits num rank bytes
 hold-read = refl
 
 short : reading (0x19 ∷ 0 ∷ 0 ∷ 0 ∷ 0 ∷ 0 ∷ 0 ∷ []) ≡ refused Numbers.brokenChart
@@ -51,13 +51,21 @@ past : List ℕ
 past = 0x19 ∷ 0 ∷ 0 ∷ 1 ∷ 0 ∷ 0 ∷ 0 ∷ 1 ∷ 0x18 ∷ 0x41 ∷ 0x7f ∷ 0xff ∷ 0xff ∷ 0xf0 ∷ 0 ∷ 0 ∷ 0 ∷ 0 ∷ 0 ∷ 0 ∷ 0 ∷ 0 ∷ 0 ∷ 0 ∷ 1 ∷ []
 
 past-bound : reading past ≡ refused Numbers.brokenChart
-unfolding reading readingOf decode okChart okHead headTests every columnsOf countOf noteOf okRows okRow okNote noteTests lasts isTime inRange le lt eq ticks ofBits num past
+unfolding reading readingOf decode okChart okHead headTests every columnsOf countOf noteOf okRows okRow okNote noteTests lasts isTime inRange le lt eq ticks ofBits num rank past
 past-bound = refl
 
--- of equal starts the one that came first stands first
+-- a circle in column 1 and one in column 0, both at 0: the reader takes them with the lower column first
+chord : ℕ → ℕ → List ℕ
+chord a b = 0x12 ∷ 0 ∷ 0 ∷ 2 ∷ 0 ∷ 0 ∷ 0 ∷ 0 ∷ a ∷ be 16 0 ++ b ∷ be 16 0
+
+chord-read : (reading (chord 0 0x10) ≡ accepted 2 2 0) × (reading (chord 0x10 0) ≡ refused Numbers.brokenChart)
+unfolding reading readingOf decode scoreOf okChart okHead headTests every columnsOf countOf drawsOf notesOf noteOf okRows okRow okNote noteTests lasts isTime inRange le lt eq ticks ofBits num be rank chord
+chord-read = (refl, refl)
+
+-- of equal starts the lowest column stands first
 circle : ℕ → ℕ → Note
 circle column start = record { column = column; hold = false; start = start; duration = 0 }
 
-in-order : arranged [] (circle 3 5 ∷ circle 1 2 ∷ circle 0 5 ∷ circle 2 2 ∷ []) ≡ circle 1 2 ∷ circle 2 2 ∷ circle 3 5 ∷ circle 0 5 ∷ []
+in-order : arranged [] (circle 3 5 ∷ circle 1 2 ∷ circle 0 5 ∷ circle 2 2 ∷ []) ≡ circle 1 2 ∷ circle 2 2 ∷ circle 0 5 ∷ circle 3 5 ∷ []
 unfolding arranged insert rank circle
 in-order = refl

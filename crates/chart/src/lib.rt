@@ -1,6 +1,7 @@
 // The chart: its notes, and a note in bytes.
 pub mod bytes;
 pub mod layout;
+pub mod order;
 pub mod rows;
 
 // A note of the chart. Its start and its duration are the bit patterns of two f64.

@@ -8,12 +8,14 @@ use chart::Note;
 use chart::bytes::get;
 use chart::layout::HEADER_SIZE;
 use chart::layout::NOTE_SIZE;
+use chart::order::precedes;
 use chart::rows::note_at;
 use floats::format::INFINITY;
 ghost use mathlib.Core.Path.{_≡_};
 ghost use Prim.Native.Nat.{_≤_, _<_};
 ghost use lib.ListN.{length, getD};
-ghost use Rattle.chart.specs.Layout.{headerSize};
+ghost use Rattle.chart.specs.Layout.{headerSize, columnValues};
+ghost use Rattle.chart.specs.Order.{rank};
 ghost use Rattle.chart.specs.Chart.{drawsOf, okHead, okNote, lasts, reading, meaning, noteIn, found, notesIn, blank};
 ghost use Rattle.floats.specs.Format.{infinity};
 
@@ -25,10 +27,10 @@ fn lasting(hold: bool, duration: u64) -> bool
     if hold { 0 < duration } else { duration == 0 }
 }
 
-// Whether a note may stand after one that starts at `last`.
-fn may_stand(columns: u8, last: u64, n: Note) -> bool
-    requires { ⌜ last < infinity ⌝ }
-    ensures { λ r. ⌜ r ≡ okNote columns last n ⌝ }
+// Whether a note may stand after `last`.
+fn may_stand(columns: u8, last: Note, n: Note) -> bool
+    requires { ⌜ (columns < columnValues) × (last .column < columnValues) ⌝ }
+    ensures { λ r. ⌜ r ≡ okNote columns (rank last) n ⌝ }
 {
     if n.column >= columns {
         return false;
@@ -39,7 +41,7 @@ fn may_stand(columns: u8, last: u64, n: Note) -> bool
     if n.duration >= INFINITY {
         return false;
     }
-    if last > n.start {
+    if precedes(n, last) {
         return false;
     }
     if !lasting(n.hold, n.duration) {
@@ -84,7 +86,12 @@ pub fn read(chart: &[u8]) -> Answer
     let columns = chart[0] % 16;
     let notes = get(chart, 1, 3) as u32;
     let count = notes as usize;
-    let mut last = 0;
+    let mut last = Note {
+        column: 0,
+        hold: false,
+        start: 0,
+        duration: 0,
+    };
     let mut i = 0;
     while i < count {
         let at = HEADER_SIZE + NOTE_SIZE * i;
@@ -95,7 +102,7 @@ pub fn read(chart: &[u8]) -> Answer
         if !may_stand(columns, last, n) {
             return Answer::Refused;
         }
-        last = n.start;
+        last = n;
         i += 1;
     }
     Answer::Chart {

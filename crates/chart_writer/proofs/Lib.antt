@@ -1,3 +1,3 @@
-pub mod Moved
+pub mod Place
 pub mod Runs
 pub mod Turned

@@ -1,4 +1,4 @@
-// The chart writer: the notes in the order of their starts, in place, and the header.
+// The chart writer: the notes in order, in place, and the header.
 pub mod merge;
 pub mod order;
 
@@ -12,7 +12,7 @@ ghost use Prim.Native.Nat.{_+_, _*_, _≤_, _<_};
 ghost use lib.ListN.{length, drop};
 ghost use Rattle.chart.specs.Layout.{chartSize};
 ghost use Rattle.chart.specs.Bytes.{splice};
-ghost use Rattle.chart.specs.Chart.{header, encode, notesOf};
+ghost use Rattle.chart.specs.Chart.{header, encode, notesOf, Holds};
 ghost use Rattle.chart.specs.Order.{arranged};
 
 // Stores the eight bytes of a header. All other bytes keep their values.
@@ -28,7 +28,7 @@ pub fn put_header(s: &mut [u8], columns: u8, notes: u32, draws: u32)
 // Makes a chart of the notes that stand behind the header's eight bytes in the order in which they came, and gives its length. The bytes
 // after the chart keep their values.
 pub fn finish(chart: &mut [u8], columns: u8, notes: u32, draws: u32) -> usize
-    requires { ⌜ (columns < 16) × (chartSize notes ≤ length (now chart)) ⌝ }
+    requires { ⌜ (columns < 16) × ((chartSize notes ≤ length (now chart)) × Holds (now chart) 8 notes) ⌝ }
     ensures { λ r. ⌜ r ≡ chartSize notes ⌝ }
     ensures { λ _. ⌜ now (chart .exit) ≡ splice (now (chart .entry)) 0 (encode columns draws (arranged [] (notesOf notes (drop 8 (now (chart .entry)))))) ⌝ }
 {

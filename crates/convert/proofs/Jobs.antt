@@ -1,6 +1,6 @@
 -- A job, from how its walk ended. Assumes nothing.
 use mathlib.Core.Path.{_≡_, refl, sym, ap, ap₂, _∙_, subst}
-use Prim.Native.Nat.{ℕ, _+_, _-_, _*_, _≤_, _<_}
+use Prim.Native.Nat.{ℕ, _-_, _≤_, _<_}
 use native.Mathlib.Nat.{zero-add, sub-self}
 use mathlib.Core.List.{List, [], map}
 use lib.ListN.{length, drop, length-map}
@@ -19,7 +19,7 @@ use Rattle.chart.specs.Bytes.{splice}
 use Rattle.chart.specs.Chart.{encode, notesOf}
 use Rattle.chart.specs.Chart as Bytes
 use Rattle.chart.specs.Order.{arranged}
-use Rattle.chart.specs.Laws.Notes.{length-encode}
+use Rattle.chart.specs.Laws.Notes.{length-encode, splice-holds}
 use Rattle.chart.specs.Laws.Order.{length-arranged}
 use Rattle.chart.specs.Laws.Arranged.{finished}
 use Rattle.model.specs.Song.{Song}
@@ -101,6 +101,13 @@ module _ (bytes buffer : List ℕ) (a : ℕ) (parsed : parse bytes ≡ accepted 
     long =
         length-encode (columnsOf S) n (arranged [] ps)
         ∙ ap (λ (k : ℕ). chartSize k) (length-arranged [] ps ∙ zero-add (length ps) ∙ counted)
+
+    -- the notes stand behind the header's place
+    pub made-holds : Bytes.Holds exit 8 notes
+    unfolding body Bytes.body
+    made-holds =
+        let all = splice-holds buffer 8 ps h (fits-all bytes buffer S parsed a n (w .nss) ends) in
+        subst (λ (k : ℕ). Bytes.Holds exit 8 k) counted (subst (λ (s : List ℕ). Bytes.Holds s 8 (length ps)) (sym (w .written)) all)
 
     pub made-job : (columns size : ℕ) (last : List ℕ) → columns ≡ columnsOf S → size ≡ chartSize notes
         → last ≡ splice exit 0 (encode columns n (arranged [] (notesOf notes (drop 8 exit)))) → jobEnd last (J.Chart size (e .tally .longest)) ≡ job bytes buffer a

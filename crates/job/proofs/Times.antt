@@ -4,7 +4,7 @@ use Prim.Native.Nat.{ℕ, zero, suc, _+_, _-_, _*_, _^_, _≤_, _<_}
 use native.Mathlib.Nat.{le-trans, le-of-eq, mul-one, mul-pos, mul-le-mul-right, le-of-mul-le-mul-right, zero-mul, add-mul}
 use native.Mathlib.Omega.{arith}
 use mathlib.Core.Bool.{Bool, true, false}
-use lib.Dec.{T, leb, eqb, lit≤, lit<}
+use lib.Dec.{T, eqb, lit≤, lit<}
 use lib.Pow.{pow-pos}
 use lib.IntN.{pos}
 use lib.Ieee.{Float, binary64, fits, round, toBits, le}
@@ -22,10 +22,10 @@ use Rattle.floats.specs.Laws.Integers.{int-value, sub-ints}
 use Rattle.floats.specs.Laws.Times.{ticks-value}
 use Rattle.floats.specs.Range.{inRange}
 use Rattle.floats.specs.Ticks.{ticks}
-use Rattle.chart.specs.Time.{time, isTime, latest}
+use Rattle.chart.specs.Time.{isTime, latest}
 use Rattle.chart.specs.Chart.{okNote, lasts}
 use Rattle.chart.specs.Laws.Times.{value-time, time-toBits}
-use Rattle.chart.specs.Laws.Reader.{note-decided}
+use Rattle.chart.specs.Laws.Reader.{first-rank, note-decided}
 use Rattle.mania.specs.declared.Note.{Note}
 use Rattle.model.specs.declared.Object.{Object}
 use Rattle.mania.specs.Steps.{double, double#}
@@ -69,13 +69,6 @@ ticks-some x f v h = some-ticks (num x) (den x) (ticks x) (2 ^ 1074) h (pow-pos 
 
 -- ---- the reader's rule of one note
 
-zero-ticks : ticks (time 0) ≡ 0
-unfolding ticks Ieee.ofBits
-zero-ticks = refl
-
-first-after : (b : ℕ) → leb (ticks (time 0)) (ticks (time b)) ≡ true
-first-after b = rw zero-ticks (le-leb 0 (ticks (time b)) (omega arith))
-
 -- the chart reader takes the note, wherever its start is in order
 pub record Okay (columns : ℕ) (n : Note) : Type 0 where
   pub taken : okNote columns 0 (patternOf n) ≡ true
@@ -88,7 +81,7 @@ module _ (columns c : ℕ) (on : c < columns) (x : Float) (f : T (fits binary64 
   note-okay hold d g w l h =
       record {
         taken =
-            sym (note-decided columns 0 _ (lt-ltb c columns on) (ap isTime (time-toBits x f) ∙ sized-time x v) (ap isTime (time-toBits d g) ∙ w) (first-after (toBits binary64 x)) l)
+            sym (note-decided columns 0 _ (lt-ltb c columns on) (ap isTime (time-toBits x f) ∙ sized-time x v) (ap isTime (time-toBits d g) ∙ w) (first-rank _) l)
             ∙ rw (time-toBits x f, time-toBits d g) (le-leb (ticks x + ticks d) latest h);
         exact = f;
       }

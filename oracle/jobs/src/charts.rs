@@ -46,7 +46,7 @@ fn parts(rng: &mut Rng) -> Parts {
     let most = if rng.percent(20) { 60 } else { 6 };
     let count = rng.index(most);
     let mut start = rng.pick(&[0.0, 5e-324, 0.1, 1000.0]);
-    let notes: Vec<Note> = (0..count)
+    let mut notes: Vec<Note> = (0..count)
         .map(|_| {
             start += match rng.below(6) {
                 0 | 1 => 0.0,
@@ -70,6 +70,7 @@ fn parts(rng: &mut Rng) -> Parts {
             }
         })
         .collect();
+    notes.sort_by(|a, b| a.start.total_cmp(&b.start).then(a.column.cmp(&b.column)));
 
     Parts {
         version: 1,
@@ -103,7 +104,7 @@ pub fn damaged_chart(rng: &mut Rng) -> Vec<u8> {
     let index = rng.index(parts.notes.len());
     let last = parts.notes.len() - 1;
 
-    match rng.below(16) {
+    match rng.below(17) {
         0 => parts.version = rng.pick(&[0, 2, 15]),
         1 => parts.columns = rng.pick(&[0, 10, 15]),
         2 => parts.count = rng.pick(&[0, parts.count + 1, parts.count - 1, 0xff_ffff]),
@@ -136,7 +137,15 @@ pub fn damaged_chart(rng: &mut Rng) -> Vec<u8> {
             let before = parts.notes[last - 1].start;
             parts.notes[last].start = rng.pick(&[before.next_down(), before, before - 1.0]);
         }
-        11 => {
+        // Two notes of one start, in either order of their columns: the order before change request 5 took both.
+        11 if last > 0 => {
+            let at = rng.index(last);
+            parts.notes[at + 1].start = parts.notes[at].start;
+            parts.notes[at + 1].duration = parts.notes[at].duration;
+            parts.notes[at + 1].hold = parts.notes[at].hold;
+            parts.notes[at + 1].column = rng.below(u64::from(parts.columns)) as u8;
+        }
+        12 => {
             let mut bytes = parts.bytes();
             let bit = rng.index(bytes.len() * 8);
             bytes[bit / 8] ^= 0x80 >> (bit % 8);

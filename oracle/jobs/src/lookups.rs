@@ -80,7 +80,11 @@ fn notes(rng: &mut Rng, columns: u8) -> Vec<Note> {
         Note { column, hold: lasts.is_some(), start: start.to_bits(), duration: lasts.unwrap_or(0.0).to_bits() }
     };
 
-    starts.into_iter().map(note).collect()
+    let mut notes: Vec<Note> = starts.into_iter().map(note).collect();
+    // Times from 0 have their patterns' order.
+    notes.sort_by_key(|note| (note.start, note.column));
+
+    notes
 }
 
 /// A chart for lookups; one in thirty is damaged.

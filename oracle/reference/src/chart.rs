@@ -27,6 +27,12 @@ pub fn note_of(object: &HitObject, columns: f32) -> Note {
     }
 }
 
+/// Document 02's order: by start, and of equal starts the lowest column first. Stable, so that equal start and column keep the list's order.
+pub fn sort(notes: &mut [Note]) {
+    let start = |note: &Note| f64::from_bits(note.start);
+    notes.sort_by(|a, b| start(a).total_cmp(&start(b)).then(a.column.cmp(&b.column)));
+}
+
 /// Writes notes one after another from the buffer's start, which has room for them.
 pub fn write_notes(notes: impl Iterator<Item = Note>, buffer: &mut [u8]) {
     for (note, bytes) in notes.zip(buffer.chunks_exact_mut(NOTE)) {
@@ -87,7 +93,7 @@ pub fn read_chart(bytes: &[u8]) -> Option<Chart> {
     }
 
     let mut notes = Vec::with_capacity(count);
-    let mut before = 0.0;
+    let mut before = (0.0, 0);
 
     for bytes in rest.chunks_exact(NOTE) {
         let note = note_at(bytes);
@@ -98,7 +104,7 @@ pub fn read_chart(bytes: &[u8]) -> Option<Chart> {
             && note.column < columns
             && is_time(start)
             && is_time(duration)
-            && start >= before
+            && (start, note.column) >= before
             && (if note.hold { duration > 0.0 } else { note.duration == 0 })
             && ends_in_time(start, duration);
 
@@ -106,7 +112,7 @@ pub fn read_chart(bytes: &[u8]) -> Option<Chart> {
             return None;
         }
 
-        before = start;
+        before = (start, note.column);
         notes.push(note);
     }
 

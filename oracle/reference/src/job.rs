@@ -1,10 +1,10 @@
 //! The job: record, walk of the unchanged `convert`, chart.
 
-use entry::JobEnd;
+use entry::{JobEnd, Note};
 
 use crate::{
     Beatmap, GameMods,
-    chart::{HEAD, NOTE, note_of, write_head, write_notes},
+    chart::{HEAD, NOTE, note_of, sort, write_head, write_notes},
     mania::convert::convert,
     record,
     stop::{ends_too_late, guarded},
@@ -82,10 +82,12 @@ fn try_job(record: &[u8], chart: &mut [u8], allowance: u64) -> JobEnd {
         return match (late, whole.end) {
             (Some(object), _) => refused(8, object, whole.draws),
             (None, Ok(made)) => {
-                let notes = made.hit_objects.iter().map(|object| note_of(object, made.cs));
+                let mut notes: Vec<Note> =
+                    made.hit_objects.iter().map(|object| note_of(object, made.cs)).collect();
+                sort(&mut notes);
                 write_head(made.cs as u8, notes.len(), whole.draws as u32, chart);
                 let length = room(notes.len());
-                write_notes(notes, &mut chart[HEAD..]);
+                write_notes(notes.into_iter(), &mut chart[HEAD..]);
 
                 JobEnd::Chart { length, longest_search: whole.longest_search as u32 }
             }

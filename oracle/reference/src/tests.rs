@@ -602,17 +602,18 @@ fn refusal_14() {
     ] {
         assert!(read_chart(&write(start, duration)).is_some(), "{start} {duration}");
     }
-    // Two notes: starts may stand, not fall.
-    let two = |second: f64| {
+    // Two notes, the first in column 3: starts may stand, not fall, and of equal starts so may columns.
+    let two = |column: u8, second: f64| {
         let mut bytes = good.clone();
         bytes[3] = 2;
-        bytes.push(0);
+        bytes.push(column << 4);
         bytes.extend(second.to_bits().to_be_bytes());
         bytes.extend([0; 8]);
         read_chart(&bytes).is_some()
     };
-    assert!(two(1.0) && two(LAST));
-    assert!(!two(1.0_f64.next_down()) && !two(LAST.next_up()));
+    assert!(two(3, 1.0) && two(0, 1.0_f64.next_up()) && two(0, LAST));
+    assert!(!two(2, 1.0) && !two(0, 1.0));
+    assert!(!two(3, 1.0_f64.next_down()) && !two(0, LAST.next_up()));
 }
 
 // What `single` rests on: difficulty is only ever compared, and with these numbers.
@@ -866,7 +867,8 @@ fn by_singles(song: &Song, columns: u32, seed: u32) -> Result<(Vec<Note>, u32), 
         }
     }
 
-    notes.sort_by(|a, b| f64::from_bits(a.start).total_cmp(&f64::from_bits(b.start)));
+    // Times from 0 have their patterns' order.
+    notes.sort_by_key(|note| (note.start, note.column));
     Ok((notes, draws))
 }
 

@@ -60,6 +60,7 @@ pub fn read_chart(bytes: &[u8]) -> Option<Chart> {
     let last_end = Ticks::of(LAST_END)?;
     let mut notes: Vec<Note> = Vec::with_capacity(count);
     let mut before = 0.0;
+    let mut lowest = 0;
 
     for _ in 0..count {
         let column = bits.field(4)? as u8;
@@ -77,6 +78,9 @@ pub fn read_chart(bytes: &[u8]) -> Option<Chart> {
         demand(from.is_finite() && lasts.is_finite(), B::chart_not_finite)?;
         demand(from >= 0.0, B::chart_start_negative)?;
         demand(from >= before, B::chart_start_falls)?;
+        // In a chord columns do not fall.
+        lowest = if from == before { lowest } else { 0 };
+        demand(column >= lowest, B::chart_chord_column_falls)?;
 
         if hold {
             demand(lasts > 0.0, B::chart_hold_not_above_0)?;
@@ -91,6 +95,7 @@ pub fn read_chart(bytes: &[u8]) -> Option<Chart> {
         demand(within, B::chart_end_beyond)?;
 
         before = from;
+        lowest = column;
         notes.push(Note {
             column,
             hold,

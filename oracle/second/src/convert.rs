@@ -256,13 +256,17 @@ pub fn job(record: &[u8], chart: &mut [u8], allowance: u32) -> JobEnd {
 
     match walk(&song, columns, room, &mut draws) {
         Ok(mut notes) => {
-            hit(if notes.is_sorted_by(|a, b| a.start <= b.start) {
+            hit(if notes.is_sorted_by(|a, b| (a.start, a.column) <= (b.start, b.column)) {
                 B::job_already_in_order
+            } else if notes.is_sorted_by(|a, b| a.start <= b.start) {
+                B::job_chords_put_in_order
             } else {
                 B::job_put_in_order
             });
 
-            // Stable, so equal starts keep walk order.
+            // By column, then by start. Both sorts are stable, so of equal starts the lowest column comes first, and equal start and
+            // column keep walk order.
+            notes.sort_by_key(|note| note.column);
             notes.sort_by(|a, b| a.start.total_cmp(&b.start));
             let length = HEADER + NOTE * notes.len();
             chart[..HEADER].copy_from_slice(&pack_header(columns as u8, notes.len(), draws.taken));

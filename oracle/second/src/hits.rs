@@ -120,6 +120,7 @@ branches! {
     job_notes_do_not_fit
     job_header_does_not_fit
     job_already_in_order
+    job_chords_put_in_order
     job_put_in_order
     job_chart
     // What a job's object meets with 8 columns, by the columns of the previous pattern.
@@ -356,6 +357,7 @@ branches! {
     chart_not_finite
     chart_start_negative
     chart_start_falls
+    chart_chord_column_falls
     chart_hold_not_above_0
     chart_circle_with_duration
     chart_end_beyond

@@ -10,7 +10,7 @@ use native.Mathlib.Numerals.{add-one}
 use native.Mathlib.Omega.{arith}
 use lib.Dec.{leb}
 use lib.ListN.{length, getD, take, drop, set, length-append, length-drop}
-use lib.Seq.{take-at, take-add, drop-at, drop-drop, getD-drop, length-take-le}
+use lib.Seq.{take-at, drop-at, drop-drop, getD-drop, length-take-le}
 use borrow.Author.Tests.{le-leb, lt-leb}
 use Rattle.rules.specs.Each.{Each}
 use Rattle.chart.specs.Layout.{chartSize, noteSize}
@@ -186,23 +186,12 @@ notes-more k s = rw (add-one k) (more k s)
         let e : noteSize + noteSize * k ≡ noteSize * suc k = omega arith in
         ap (λ (t : List Note). noteOf s ∷ t) (more k (drop noteSize s) ∙ rw (drop-drop (noteSize * k) noteSize s, e))
 
-pub holds-more : (s : List ℕ) (i k : ℕ) → i + noteSize * k + noteSize ≤ length s → Bytes s → getD s (i + noteSize * k) 0 % 8 ≡ 0 → Holds s i k → Holds s i (k + 1)
-unfolding Holds
-holds-more s i k l h z holds =
-    let r : List ℕ = drop (i + noteSize * k) s in
-    let first : getD r 0 0 % 8 ≡ 0 = rw (getD-drop (i + noteSize * k) s 0 0, add-zero (i + noteSize * k)) z in
-    let row = row-back r (rw (length-drop (i + noteSize * k) s) (omega arith)) (bytes-drop (i + noteSize * k) s h) first in
-    let next : take noteSize r ≡ noteBytes (noteOf r) = ap (take noteSize) row ∙ take-at (noteBytes (noteOf r)) (drop noteSize r) noteSize (length-note (noteOf r)) in
-    let size : noteSize * (k + 1) ≡ noteSize * k + noteSize = omega arith in
-    rw (size, take-add (noteSize * k) noteSize (drop i s), drop-drop (noteSize * k) i s, notes-more k (drop i s), body-append, body-one, drop-drop (noteSize * k) i s) (rw (holds, next))
-
--- the note of an index, and its start
+-- the note of an index
 pub notes-at : (k : ℕ) (s : List ℕ) (i : ℕ) (d : Note) → i < k → getD (notesOf k s) i d ≡ noteOf (drop (noteSize * i) s)
 unfolding notesOf
 notes-at zero s i d h = absurd (omega arith)
 notes-at (suc k) s zero d h = refl
 notes-at (suc k) s (suc i) d h = let e : noteSize + noteSize * i ≡ noteSize * suc i = omega arith in notes-at k (drop noteSize s) i d (omega arith) ∙ rw (drop-drop (noteSize * i) noteSize s, e)
 
-pub start-at : (k : ℕ) (s : List ℕ) (from i : ℕ) (d : Note) → i < k → getD (notesOf k (drop from s)) i d .start ≡ num 8 (drop (from + noteSize * i + 1) s)
-unfolding noteOf
-start-at k s from i d h = ap (λ (n : Note). n .start) (notes-at k (drop from s) i d h) ∙ rw (drop-drop (noteSize * i) from s, drop-drop 1 (from + noteSize * i) s)
+pub row-at : (k : ℕ) (s : List ℕ) (from i : ℕ) (d : Note) → i < k → getD (notesOf k (drop from s)) i d ≡ noteOf (drop (from + noteSize * i) s)
+row-at k s from i d h = notes-at k (drop from s) i d h ∙ rw (drop-drop (noteSize * i) from s)

@@ -4,7 +4,7 @@ use mathlib.Core.Path.{_≡_, refl, sym, ap, _∙_}
 use mathlib.Core.Bool.{Bool, true, false, _&&_, and-false, and-true}
 use mathlib.Core.List.{List, [], _∷_}
 use mathlib.Core.Option.{Option, none, some, Option·some-injective}
-use Prim.Native.Nat.{ℕ, zero, suc, _+_, _-_, _*_, _/_, _%_, _≤_, _<_}
+use Prim.Native.Nat.{ℕ, zero, suc, _+_, _-_, _*_, _/_, _%_, _≤_, _<_, zero-le}
 use native.Mathlib.Nat.{add-zero}
 use native.Mathlib.Omega.{arith}
 use lib.Dec.{leb, ltb, eqb}
@@ -13,11 +13,12 @@ use lib.Seq.{getD-drop, drop-drop}
 use borrow.Author.Tests.{ne-eqb, eq-eqb, le-leb, eqb-true}
 use Rattle.rules.specs.Numbers as Numbers
 use Rattle.floats.specs.Ticks.{ticks}
-use Rattle.chart.specs.Layout.{chartSize, noteSize}
+use Rattle.chart.specs.Layout.{chartSize, noteSize, columnValues}
 use Rattle.chart.specs.declared.Note.{Note}
 use Rattle.chart.specs.Tests.{every, passes, fails, both}
 use Rattle.chart.specs.Time.{time, isTime, latest}
 use Rattle.chart.specs.Chart.{Score, refused, accepted, reading, readingOf, columnsOf, countOf, decode, drawsOf, headTests, lasts, noteIn, noteOf, notesOf, noteTests, okChart, okHead, okNote, okNotes, okRow, okRows, scoreOf, notesRead, notesIn, blank}
+use Rattle.chart.specs.Order.{rank}
 use Rattle.floats.specs.Format.{infinity}
 use Rattle.chart.specs.Laws.Times.{time-fits}
 use Rattle.chart.specs.Laws.Notes.{length-notesOf, notes-at}
@@ -32,10 +33,14 @@ pub note-refused : (c l : ℕ) (n : Note) (i : ℕ) → getD (noteTests c l n) i
 unfolding okNote
 note-refused c l n i h = sym (fails (noteTests c l n) i h)
 
-pub note-decided : (c l : ℕ) (n : Note) → ltb (n .column) c ≡ true → isTime (time (n .start)) ≡ true → isTime (time (n .duration)) ≡ true → leb (ticks (time l)) (ticks (time (n .start))) ≡ true
+pub note-decided : (c l : ℕ) (n : Note) → ltb (n .column) c ≡ true → isTime (time (n .start)) ≡ true → isTime (time (n .duration)) ≡ true → leb l (rank n) ≡ true
     → lasts (n .hold) (n .duration) ≡ true → leb (ticks (time (n .start)) + ticks (time (n .duration))) latest ≡ okNote c l n
 unfolding okNote noteTests every
 note-decided c l n t0 t1 t2 t3 t4 = rw (t0, t1, t2, t3, t4, and-true (leb (ticks (time (n .start)) + ticks (time (n .duration))) latest))
+
+-- the rank of a chart's first note may be any
+pub first-rank : (n : Note) → leb 0 (rank n) ≡ true
+first-rank n = le-leb 0 (rank n) zero-le
 
 -- the same of the header
 pub head-refused : (s : List ℕ) (i : ℕ) → getD (headTests s) i true ≡ false → false ≡ okHead s
@@ -73,7 +78,7 @@ rows-end columns last count i s h = let e : count - i ≡ 0 = omega arith in rw 
 
 module _ (columns last count i : ℕ) (s : List ℕ) (more : i < count) where
   from-row : okRows columns last (count - i) (drop (chartSize i) s)
-      ≡ okRow columns last (drop (chartSize i) s) && okRows columns (noteOf (drop (chartSize i) s) .start) (count - (i + 1)) (drop (chartSize (i + 1)) s)
+      ≡ okRow columns last (drop (chartSize i) s) && okRows columns (rank (noteOf (drop (chartSize i) s))) (count - (i + 1)) (drop (chartSize (i + 1)) s)
   unfolding okRows
   from-row =
       let one : count - i ≡ suc (count - (i + 1)) = omega arith in
@@ -81,7 +86,7 @@ module _ (columns last count i : ℕ) (s : List ℕ) (more : i < count) where
       rw (one, next, ← drop-drop noteSize (chartSize i) s)
 
   pub row-next : getD s (chartSize i) 0 % 8 ≡ 0 → okNote columns last (noteOf (drop (chartSize i) s)) ≡ true
-      → okRows columns last (count - i) (drop (chartSize i) s) ≡ okRows columns (noteOf (drop (chartSize i) s) .start) (count - (i + 1)) (drop (chartSize (i + 1)) s)
+      → okRows columns last (count - i) (drop (chartSize i) s) ≡ okRows columns (rank (noteOf (drop (chartSize i) s))) (count - (i + 1)) (drop (chartSize (i + 1)) s)
   unfolding okRow
   row-next z ok = from-row ∙ rw (getD-drop (chartSize i) s 0 0, add-zero (chartSize i), z, ok)
 
@@ -107,9 +112,14 @@ rows-notes : (c l k : ℕ) (s : List ℕ) → okRows c l k s ≡ true → okNote
 unfolding okRows okRow okNotes notesOf
 rows-notes c l zero s ok = refl
 rows-notes c l (suc k) s ok =
-    let here = both (okRow c l s) (okRows c (noteOf s .start) k (drop noteSize s)) ok in
+    let here = both (okRow c l s) (okRows c (rank (noteOf s)) k (drop noteSize s)) ok in
     let row = both (eqb (getD s 0 0 % 8) 0) (okNote c l (noteOf s)) (here .0) in
-    rw (row .1) (rows-notes c (noteOf s .start) k (drop noteSize s) (here .1))
+    rw (row .1) (rows-notes c (rank (noteOf s)) k (drop noteSize s) (here .1))
+
+-- it has few columns
+pub columns-few : (s : List ℕ) (c : Score) → decode s ≡ some c → c .columns < columnValues
+unfolding scoreOf columnsOf
+columns-few s c e = rw (← read-score s c e .1) (omega arith)
 
 -- its notes keep the rule
 pub notes-ok : (s : List ℕ) (c : Score) → decode s ≡ some c → okNotes (c .columns) 0 (c .notes) ≡ true
@@ -133,8 +143,8 @@ note-read s c e i d l =
 pub notes-times : (c l : ℕ) (ns : List Note) → okNotes c l ns ≡ true → (i : ℕ) (d : Note) → i < length ns → (getD ns i d .start < infinity) × (getD ns i d .duration < infinity)
 unfolding okNotes
 notes-times c l [] ok i d h = absurd (omega arith)
-notes-times c l (n ∷ ns) ok zero d h = note-fits c l n (both (okNote c l n) (okNotes c (n .start) ns) ok .0)
-notes-times c l (n ∷ ns) ok (suc i) d h = notes-times c (n .start) ns (both (okNote c l n) (okNotes c (n .start) ns) ok .1) i d (omega arith)
+notes-times c l (n ∷ ns) ok zero d h = note-fits c l n (both (okNote c l n) (okNotes c (rank n) ns) ok .0)
+notes-times c l (n ∷ ns) ok (suc i) d h = notes-times c (rank n) ns (both (okNote c l n) (okNotes c (rank n) ns) ok .1) i d (omega arith)
 
 -- the reader's numbers are those of the chart
 pub accepted-score : (o : Option Score) (columns notes draws : ℕ) → accepted columns notes draws ≡ readingOf o

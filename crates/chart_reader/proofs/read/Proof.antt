@@ -4,22 +4,30 @@ use mathlib.Core.Path.{_≡_, sym, ap, _∙_}
 use mathlib.Core.Bool.{true}
 use Prim.Native.Nat.{ℕ, _-_, _≤_, _<_}
 use native.Mathlib.Nat.{sub-zero}
+use native.Mathlib.Omega.{arith}
 use borrow.Author.Needs.{needs}
 use borrow.Author.Tests.{not-true, not-false}
 use lib.ListN.{length, drop}
-use Rattle.chart.specs.Layout.{chartSize}
+use Rattle.chart.specs.Layout.{chartSize, columnValues}
 use Rattle.chart.specs.Chart.{okHead, okRows, columnsOf, countOf}
-use Rattle.floats.specs.Format.{infinity}
-use Rattle.chart.specs.Laws.Reader.{refused-head, refused-rows, all-pass, head-size, rows-end, row-zeros, row-note, row-next, note-fits}
+use Rattle.chart.specs.Bytes.{Bytes}
+use Rattle.chart.specs.Order.{rank}
+use Rattle.chart.specs.Laws.Bytes.{bytes-drop}
+use Rattle.chart.specs.Laws.Notes.{fit-note}
+use Rattle.chart.specs.Laws.Reader.{refused-head, refused-rows, all-pass, head-size, rows-end, row-zeros, row-note, row-next}
 use Rattle.chart_reader.proofs.read.Statement.{statement}
 use Rattle.chart_reader.proofs.read.Tie as tie
 
 abbrev Inv-loop : tie.InvT-loop
 Inv-loop chart columns notes count last₀ i₀ last i =
-    (i ≤ count) × ((last < infinity) × (okRows columns last (count - i) (drop (chartSize i) chart) ≡ okRows columns 0 count (drop 8 chart)))
+    (i ≤ count) × ((last .column < columnValues) × (okRows columns (rank last) (count - i) (drop (chartSize i) chart) ≡ okRows columns 0 count (drop 8 chart)))
 
 abbrev μ-loop : tie.MeasureT-loop
 μ-loop chart columns notes count last₀ i₀ last i = count - i
+
+bytes : (c : tie.After-shared-slice-known Inv-loop μ-loop) → Bytes (c .before .args .chart .now)
+unfolding Bytes
+bytes c = λ k. c .shared-slice-known .given k .fits
 
 -- the header passes, so the chart's length is known
 okay : (c : tie.After-shared-slice-known2 Inv-loop μ-loop) → okHead (c .before .before .before .before .args .chart .now) ≡ true
@@ -48,7 +56,8 @@ cast-count : tie.Need-cast-count Inv-loop μ-loop
 cast-count c = search needs
 
 loop-holds : tie.Need-loop-holds Inv-loop μ-loop
-loop-holds c = (search needs, (search needs, rw sub-zero))
+unfolding rank
+loop-holds c = (search needs, (omega arith, rw sub-zero))
 
 mul-at : tie.Need-mul-at Inv-loop μ-loop
 mul-at c = search needs
@@ -70,7 +79,7 @@ note-at-requires : tie.Need-note-at-requires Inv-loop μ-loop
 note-at-requires c κs = let all = size (c .before .before .before .before) in search needs
 
 may-stand-requires : tie.Need-may-stand-requires Inv-loop μ-loop
-may-stand-requires c κs = search needs
+may-stand-requires c κs = (omega arith, c .before .before .before .before .loop .inv .1 .0)
 
 returns-3 : tie.Need-returns-3 Inv-loop μ-loop
 unfolding columnsOf countOf
@@ -94,7 +103,7 @@ loop-again c =
     let more : l .loop .i < l .before .get .result = search needs in
     let good = sym (c .before .may-stand .ensures) ∙ not-false _ (c .if3 .left) in
     let here = rw (c .before .before .note-at .ensures) at good in
-    (search needs, (note-fits _ _ _ good .0, rw (c .before .before .note-at .ensures) (sym (row-next _ _ _ _ s more (c .before .before .before .if2 .left) here) ∙ l .loop .inv .1 .1)))
+    (search needs, (rw (c .before .before .note-at .ensures) (fit-note (drop (chartSize (l .loop .i)) s) (bytes-drop (chartSize (l .loop .i)) s (bytes (l .before .before .before .before .before))) .column), rw (c .before .before .note-at .ensures) (sym (row-next _ _ _ _ s more (c .before .before .before .if2 .left) here) ∙ l .loop .inv .1 .1)))
 
 cast-t20 : tie.Need-cast-t20 Inv-loop μ-loop
 cast-t20 c = search needs

@@ -15,7 +15,7 @@ use Rattle.walk.specs.declared.WalkEnd.{WalkEnd}
 use Rattle.walk.specs.Steps.{Written, Ends}
 use Rattle.convert.specs.Ends.{songRule}
 use Rattle.convert.proofs.Songs.{settings-accepted, deck}
-use Rattle.convert.proofs.Jobs.{only-length, short, stopped-job, found-left, refused-left, made-job}
+use Rattle.convert.proofs.Jobs.{only-length, short, stopped-job, found-left, refused-left, made-holds, made-job}
 use borrow.Author.Needs.{needs}
 use Rattle.convert.proofs.convert_song.Statement.{statement}
 use Rattle.convert.proofs.convert_song.Tie as tie
@@ -89,7 +89,7 @@ finish-requires c κs =
     let k = c .before .before .before .before in
     let s = k .before .before .before .before .before .before .before .before .before .before .before .before .before in
     let columns = ap (λ (g : Song). g .columns) (k .before .before .before .before .before .before .before .before .before .song-of .ensures) in
-    (omega (arith, columns, deck (s .args .bytes .now) (s .args .m) (s .pre) .1), omega (arith, made k .room))
+    (omega (arith, columns, deck (s .args .bytes .now) (s .args .m) (s .pre) .1), (omega (arith, made k .room), made-holds (s .args .bytes .now) (s .args .chart .now) (s .args .allowance) (s .pre .parsed) (omega (arith, k .before .before .before .before .before .before .before .before .before .before .if1 .left)) (k .before .before .before .before .walk-part .last .1 .1 .0) (k .notes .given .0 .0) (k .notes .given .0 .1 .0) (made k)))
 
 enum-known-n : tie.Need-enum-known-n
 enum-known-n c = search needs

@@ -145,6 +145,24 @@ fn rulers() -> Vec<Job> {
     list
 }
 
+/// Objects that start together, in either order: document 02's order of equal starts. On one column equal start and column keep walk order, which a hold
+/// and circles show.
+fn chords() -> Vec<Job> {
+    let mut list = Vec::new();
+    for columns in [1, 4, 7, 8] {
+        let at = |kind, x| Object { kind, sound: 0, x, y: 100.0, start: 1000.0 };
+        let hold = Kind::Hold { duration: 500.0 };
+        let mut objects = vec![at(Kind::Circle, 400.0), at(hold, 256.0), at(Kind::Circle, 40.0), slider(1000.0, 40, 20.0), at(Kind::Circle, 200.0)];
+        for _ in 0..2 {
+            let song = Song { key_choice: columns, objects: objects.clone(), ..Song::default() };
+            list.push(job(&song, 8 + 17 * 100, 1000));
+            objects.reverse();
+        }
+    }
+
+    list
+}
+
 /// Sees that of each three rulers the first two make the same chart, and the third another.
 fn differ_where_near(list: &[Answered]) {
     for three in list.chunks(3) {
@@ -185,7 +203,7 @@ fn main() -> ExitCode {
     let rows = hits::NAMES.len() + NUMBERS + 16;
     let mut list: Vec<Answered> = rulers().into_iter().map(Answered::new).collect();
     differ_where_near(&list);
-    list.extend(long_sliders().into_iter().map(Answered::new));
+    list.extend(long_sliders().into_iter().chain(chords()).map(Answered::new));
     list.extend(refused_when_many(many_repeats()));
     let most: Vec<Answered> = most_notes().into_iter().map(Answered::new).collect();
     most.iter().for_each(has_most_notes);
