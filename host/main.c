@@ -63,22 +63,34 @@ static size_t read_record(const char *path) {
 }
 
 static int print_chart(size_t length) {
-    uint32_t columns, notes, draws;
-    uint32_t refusal = sumopine_read_chart(chart, length, &columns, &notes, &draws);
+    uint32_t version, columns, notes, draws;
+    uint32_t refusal = sumopine_read_chart(chart, length, &version, &columns, &notes, &draws);
     if (refusal != 0) {
         printf("refused %" PRIu32 "\n", refusal);
         return 1;
     }
-    printf("%" PRIu32 " columns, %" PRIu32 " notes, %" PRIu32 " draws\n", columns, notes, draws);
+    printf("version %" PRIu32 ": %" PRIu32 " columns, %" PRIu32 " notes, %" PRIu32 " draws\n", version, columns, notes, draws);
 
-    uint32_t column, hold;
+    uint32_t column, hold, has_object, object;
     uint64_t start, duration;
-    for (uint32_t i = 0; sumopine_note(chart, length, i, &column, &hold, &start, &duration) == 1; i++) {
+    for (uint32_t i = 0; sumopine_note(chart, length, i, &column, &hold, &start, &duration, &has_object, &object) == 1; i++) {
         printf("column %" PRIu32 " at %.17g ms", column, number(start));
         if (hold) printf(" for %.17g ms", number(duration));
+        if (has_object) printf(", object %" PRIu32, object);
         printf("\n");
     }
     return 0;
+}
+
+/* The small record's chart as version 1 has it, with 17 bytes for its note. The same bytes as version 2 are broken. */
+static int print_old_chart(void) {
+    memmove(chart + SUMOPINE_HEADER_BYTES + 1, chart + SUMOPINE_HEADER_BYTES + 3, SUMOPINE_OLD_NOTE_BYTES - 1);
+    uint32_t version, columns, notes, draws;
+    size_t length = SUMOPINE_HEADER_BYTES + SUMOPINE_OLD_NOTE_BYTES;
+    if (sumopine_read_chart(chart, length, &version, &columns, &notes, &draws) != SUMOPINE_BROKEN_CHART) return 1;
+    if (version != 0 || columns != 0 || notes != 0 || draws != 0) return 1;
+    chart[0] ^= 0x30;
+    return print_chart(length);
 }
 
 /* Notes around a moment: those that start in the first second and those held at 1300 ms, the end of the small record's hold. */
@@ -123,6 +135,7 @@ static int print_object(void) {
         return 1;
     }
     printf("one object: %" PRIu32 " notes, %" PRIu32 " draws, column %d\n", notes, draws, note[0] >> 4);
+    if ((note[0] & 7) != 0 || note[1] != 0 || note[2] != 0) return 1;
     int refused = wide_refused(note);
     free(note);
     return !refused;
@@ -177,6 +190,7 @@ int main(int count, char **words) {
     printf("%" PRIu32 " draws, at most %" PRIu32 " in one search\n", draws, longest_search);
     if (count > 1) return 0;
     if (print_around((size_t)length) != 0) return 1;
+    if (print_old_chart() != 0) return 1;
     if (print_object() != 0) return 1;
     if (print_longest() != 0) return 1;
     return print_announced();

@@ -21,13 +21,13 @@ static int all(const uint8_t *bytes, size_t length, uint8_t value) {
 /* Converts a job in a chart buffer; whether it ended as recorded, in every number and every byte of the chart. */
 static int converts(const struct job *job, uint8_t *chart) {
     uint64_t length;
-    uint32_t object, draws, longest_search, columns, notes, made;
+    uint32_t object, draws, longest_search, version, columns, notes, made;
     uint32_t refusal = sumopine_convert(job->record, job->record_len, chart, job->chart_len, job->allowance, &length, &object, &draws, &longest_search);
     if (refusal != job->refusal || length != job->length || object != job->object) return 0;
     if (draws != job->draws || longest_search != job->longest_search) return 0;
     if (refusal != 0) return all(chart, job->chart_len, 0);
     if (memcmp(chart, job->chart, job->length) != 0) return 0;
-    return sumopine_read_chart(chart, job->length, &columns, &notes, &made) == 0 && draws == made;
+    return sumopine_read_chart(chart, job->length, &version, &columns, &notes, &made) == 0 && version == 2 && draws == made;
 }
 
 /* Whether a job ends as recorded whatever it was lent. */

@@ -44,9 +44,9 @@ static void convert(void) {
 static void look(void) {
     static uint32_t places[1 << 16];
     uint64_t count, start, duration;
-    uint32_t columns, notes, draws, hold, found, place;
-    sumopine_read_chart(chart, job.length, &columns, &notes, &draws);
-    sumopine_note(chart, job.length, 0, &columns, &hold, &start, &duration);
+    uint32_t version, columns, notes, draws, hold, has_object, object, found, place;
+    sumopine_read_chart(chart, job.length, &version, &columns, &notes, &draws);
+    sumopine_note(chart, job.length, 0, &columns, &hold, &start, &duration, &has_object, &object);
     sumopine_notes_between(chart, job.length, 0.0, 1e9, places, 1 << 16, &count);
     sumopine_holds_at(chart, job.length, 1000.0, places, 1 << 16, &count);
     sumopine_nearest_note(chart, job.length, 0, 1000.0, &found, &place);

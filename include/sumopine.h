@@ -19,9 +19,17 @@
 extern "C" {
 #endif
 
-/* Bytes of a chart's header and of each of its notes. */
+/* A chart is a header and its notes. Fields follow each other without gaps, the highest bit first; times are f64 patterns, in ms.
+ *
+ * header             version 4 bits, columns 4, number of notes 24, draws 32
+ * note of version 2  column 4 bits, hold 1, object 12, zero 7, start 64, duration 64
+ * note of version 1  column 4 bits, hold 1, zero 3, start 64, duration 64
+ *
+ * `sumopine_convert` writes version 2. Whatever reads a chart takes both versions. An object is its index in the record, counted from 0; a note
+ * of version 1 has none. */
 #define SUMOPINE_HEADER_BYTES 8
-#define SUMOPINE_NOTE_BYTES 17
+#define SUMOPINE_NOTE_BYTES 19
+#define SUMOPINE_OLD_NOTE_BYTES 17
 
 /* The most objects of a song, and the most notes of one object: a slider of 299 repeats, two notes in each of its 301 rows. With a chart buffer
  * of SUMOPINE_LARGEST_CHART bytes, which is 2,465,190 notes, or a notes buffer of SUMOPINE_LARGEST_OBJECT bytes 11 is never returned. */
@@ -76,23 +84,25 @@ uint32_t sumopine_convert(const uint8_t *record, size_t record_len, uint8_t *cha
 
 /* Reads a chart of exactly `chart_len` bytes and checks all of it.
  *
- * Returns   *columns  *notes              *draws
- * 0         1 to 9    the number of notes the draws of its job
- * 14        0         0                   0
+ * Returns   *version  *columns  *notes               *draws
+ * 0         1 or 2    1 to 9    the number of notes  the draws of its job
+ * 14        0         0         0                    0
  *
- * Starts do not fall, and of neighbours with equal starts the later column is not lower; else 14. The chart is only read. */
-uint32_t sumopine_read_chart(const uint8_t *chart, size_t chart_len, uint32_t *columns, uint32_t *notes, uint32_t *draws);
+ * Starts do not fall, and of neighbours with equal starts the later column is not lower; else 14. The objects of the notes may be any, from 0
+ * to 4,095: they are not checked, nor is whether two notes of one object meet in a column. The chart is only read. */
+uint32_t sumopine_read_chart(const uint8_t *chart, size_t chart_len, uint32_t *version, uint32_t *columns, uint32_t *notes, uint32_t *draws);
 
 /* The fields of the note with this index, counted from 0. It checks only that the bytes go on to the note's end.
  *
- * Returns   *column    *hold                  *start              *duration
- * 1         its column 1 a hold, 0 a circle   an f64's bits, ms   an f64's bits, ms; 0 for a circle
- * 0         0          0                      0                   0
+ * Returns   *column     *hold                 *start             *duration                          *has_object  *object
+ * 1         its column  1 a hold, 0 a circle  an f64's bits, ms  an f64's bits, ms; 0 for a circle  1            its object's index
+ * 1         the same of a note of version 1                                                         0            0
+ * 0         0           0                     0                  0                                  0            0
  *
- * In a chart that `sumopine_read_chart` takes, exactly the indices below *notes give 1. In other bytes the fields are what stands there:
- * a column up to 15, and any bits. The chart is only read. */
+ * In a chart that `sumopine_read_chart` takes, exactly the indices below *notes give 1. In other bytes the fields are what stands there, a
+ * column up to 15 and any bits; a version other than 1 is taken for 2. The chart is only read. */
 uint32_t sumopine_note(const uint8_t *chart, size_t chart_len, uint32_t index, uint32_t *column, uint32_t *hold, uint64_t *start,
-                       uint64_t *duration);
+                       uint64_t *duration, uint32_t *has_object, uint32_t *object);
 
 /* Lists the notes that start within two times, in ms, ends included, by their places in the chart: counted from 0, rising, from the start of
  * the list of `places_len` numbers.
@@ -135,8 +145,8 @@ uint32_t sumopine_nearest_note(const uint8_t *chart, size_t chart_len, uint32_t 
 /* Kinds of an object. */
 enum { SUMOPINE_CIRCLE = 0, SUMOPINE_SLIDER = 1, SUMOPINE_SPINNER = 2, SUMOPINE_HOLD = 3 };
 
-/* Converts one object, with at most `allowance` draws, and writes its notes as it makes them, not sorted, 17 bytes each, from the start of the
- * notes buffer.
+/* Converts one object, with at most `allowance` draws, and writes its notes as it makes them, not sorted, as notes of version 2 with object 0,
+ * from the start of the notes buffer.
  *
  * The facts:           difficulty, multiplier, beat length, velocity, kiai (a flag) and density.
  * The previous values: time, position, mask and last column of the previous pattern, and its stair, 0 or, for a reverse one, any other.

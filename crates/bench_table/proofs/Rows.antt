@@ -3,7 +3,7 @@
 use mathlib.Core.Path.{_≡_, refl, ap, _∙_}
 use Prim.Native.Nat.{ℕ, zero, suc, _-_, _^_}
 use mathlib.Core.Bool.{true, false}
-use mathlib.Core.List.{List, [], _∷_, _++_, map}
+use mathlib.Core.List.{List, [], _∷_, _++_}
 use lib.IntN.{pos}
 use lib.Ieee.{Float, binary64, round}
 use lib.ListN.{replicate}
@@ -37,9 +37,10 @@ use Rattle.mania.specs.LimitedQueue.{unknownDensity}
 use Rattle.mania.specs.Convert.{at, seed, targetColumns, songFacts, factsAt, convert}
 use Rattle.mania.specs.Single.{Single, withRoom, singleObject}
 use Rattle.mania.specs.Single as Single
+use Rattle.chart.specs.declared.Version.the-variants.{Two}
 use Rattle.chart.specs.Chart.{encode}
 use Rattle.chart.specs.Order.{arranged}
-use Rattle.mania.specs.Chart.{patternOf, inWalkOrder}
+use Rattle.mania.specs.Chart.{patternsFrom}
 use Rattle.mania.proofs.Computing.{computing}
 
 abbrev settings : Float → Float → Float → Float → Settings
@@ -200,9 +201,9 @@ hold-song : run (convert holding 65536) (273327012 ∷ []) ≡ ended ((held ∷ 
 unfolding computing
 hold-song = refl
 
-hold-chart : encode 9 1 (arranged [] (map patternOf (inWalkOrder ((held ∷ []) ∷ []))))
-    ≡ 0x19 ∷ 0 ∷ 0 ∷ 1 ∷ 0 ∷ 0 ∷ 0 ∷ 1
-    ∷ 0x18 ∷ 0x40 ∷ 0x8f ∷ 0x40 ∷ 0 ∷ 0 ∷ 0 ∷ 0 ∷ 0 ∷ 0x40 ∷ 0x72 ∷ 0xc0 ∷ 0 ∷ 0 ∷ 0 ∷ 0 ∷ 0 ∷ []
+hold-chart : encode Two 9 1 (arranged [] (patternsFrom 0 ((held ∷ []) ∷ [])))
+    ≡ 0x29 ∷ 0 ∷ 0 ∷ 1 ∷ 0 ∷ 0 ∷ 0 ∷ 1
+    ∷ 0x18 ∷ 0 ∷ 0 ∷ 0x40 ∷ 0x8f ∷ 0x40 ∷ 0 ∷ 0 ∷ 0 ∷ 0 ∷ 0 ∷ 0x40 ∷ 0x72 ∷ 0xc0 ∷ 0 ∷ 0 ∷ 0 ∷ 0 ∷ 0 ∷ []
 unfolding computing
 hold-chart = refl
 
@@ -218,10 +219,10 @@ previous mask last stair =
 
 -- from the state of seed 0, under an allowance of one draw, with room for one note
 abbrev one : Facts → PrevValues → ℕ → Object → Single
-one f v columns o = singleObject f v columns o (seeded 0) 1 (replicate 17 165)
+one f v columns o = singleObject f v columns o (seeded 0) 1 (replicate 19 165)
 
 abbrev refusedBy : ℕ → Single
-refusedBy number = Single.refusing number (seeded 0) (replicate 17 165)
+refusedBy number = Single.refusing number (seeded 0) (replicate 19 165)
 
 -- 8: 131,072 long, beat 60,000, velocity 0.1
 abbrev slow : Facts

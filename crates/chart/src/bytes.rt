@@ -1,7 +1,7 @@
 // Numbers in bytes, the highest byte first.
 ghost use mathlib.Core.Path.{_≡_};
 ghost use Prim.Native.Nat.{_+_, _^_, _≤_, _<_};
-ghost use lib.ListN.{length, drop, set, replicate};
+ghost use lib.ListN.{length, drop, replicate};
 ghost use Rattle.chart.specs.Bytes.{be, num, splice};
 
 fn wide(x: u8) -> u64
@@ -40,6 +40,14 @@ pub fn get8(s: &[u8], at: usize) -> u64
     high * 4294967296 + low
 }
 
+// The number in the 3 bytes from `at`.
+pub fn get3(s: &[u8], at: usize) -> u64
+    requires { ⌜ at + 3 ≤ length (now s) ⌝ }
+    ensures { λ r. ⌜ (r ≡ num 3 (drop at (now (s .entry)))) × (r < 256 ^ 3) ⌝ }
+{
+    wide(s[at]) * 65536 + wide(s[at + 1]) * 256 + wide(s[at + 2])
+}
+
 // Stores a number in the `size` bytes from `at`. All other bytes keep their values.
 pub fn put(s: &mut [u8], at: usize, size: usize, value: u64)
     requires { ⌜ at + size ≤ length (now s) ⌝ }
@@ -69,15 +77,14 @@ pub fn put8(s: &mut [u8], at: usize, value: u64)
     s[at + 7] = (value % 256) as u8;
 }
 
-// Stores a byte. The test always holds. It parts the stores before it from those behind it: the compiler makes one store of eight bytes only
-// where no other stores stand next to them. It does not read the byte, which a host need not have initialised.
-pub fn put_byte(s: &mut [u8], at: usize, value: u8)
-    requires { ⌜ at < length (now s) ⌝ }
-    ensures { λ _. ⌜ now (s .exit) ≡ set (now (s .entry)) at value ⌝ }
+// Stores a number in the 3 bytes from `at`. All other bytes keep their values.
+pub fn put3(s: &mut [u8], at: usize, value: u64)
+    requires { ⌜ at + 3 ≤ length (now s) ⌝ }
+    ensures { λ _. ⌜ now (s .exit) ≡ splice (now (s .entry)) at (be 3 value) ⌝ }
 {
-    if at < s.len() {
-        s[at] = value;
-    }
+    s[at] = (value / 65536 % 256) as u8;
+    s[at + 1] = (value / 256 % 256) as u8;
+    s[at + 2] = (value % 256) as u8;
 }
 
 pub fn zero(s: &mut [u8])

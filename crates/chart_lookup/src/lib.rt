@@ -66,6 +66,7 @@ pub fn list_notes(chart: &[u8], w: Wanted, list: &mut [u32]) -> Listed
 {
     match read(chart) {
         Answer::Chart {
+            version: _,
             columns: _,
             notes,
             draws: _,

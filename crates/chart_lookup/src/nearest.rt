@@ -107,6 +107,7 @@ pub fn nearest_note(chart: &[u8], column: u32, t: f64) -> Sought
 {
     match read(chart) {
         Answer::Chart {
+            version: _,
             columns,
             notes,
             draws: _,

@@ -5,18 +5,21 @@ use crate::time::within;
 use chart::Answer;
 use chart::Found;
 use chart::Note;
+use chart::Origin;
+use chart::Version;
 use chart::bytes::get;
+use chart::layout;
 use chart::layout::HEADER_SIZE;
-use chart::layout::NOTE_SIZE;
 use chart::order::precedes;
-use chart::rows::note_at;
+use chart::rows::note_in;
+use chart::rows::zeros_ok;
 use floats::format::INFINITY;
 ghost use mathlib.Core.Path.{_≡_};
 ghost use Prim.Native.Nat.{_≤_, _<_};
-ghost use lib.ListN.{length, getD};
-ghost use Rattle.chart.specs.Layout.{headerSize, columnValues};
+ghost use lib.ListN.{length, getD, drop};
+ghost use Rattle.chart.specs.Layout.{headerSize, columnValues, chartSizeIn, mostInChart};
 ghost use Rattle.chart.specs.Order.{rank};
-ghost use Rattle.chart.specs.Chart.{drawsOf, okHead, okNote, lasts, reading, meaning, noteIn, found, notesIn, blank};
+ghost use Rattle.chart.specs.Chart.{versionOf, drawsOf, okHead, okRows, okNote, lasts, reading, meaning, noteIn, found, notesIn, blank};
 ghost use Rattle.floats.specs.Format.{infinity};
 
 // A hold lasts; the duration of a circle is zero bits.
@@ -50,14 +53,27 @@ fn may_stand(columns: u8, last: Note, n: Note) -> bool
     within(n.start, n.duration)
 }
 
-// Eight bytes at least, version 1, columns 1 to 9, and as many bytes as the stated notes take.
+// The version by the header's first four bits: a number other than 1 reads as 2, and is tested.
+fn version_of(chart: &[u8]) -> Version
+    requires { ⌜ 1 ≤ length (now chart) ⌝ }
+    ensures { λ r. ⌜ r ≡ versionOf (now (chart .entry)) ⌝ }
+{
+    if chart[0] / 16 == 1 {
+        Version::One
+    } else {
+        Version::Two
+    }
+}
+
+// Eight bytes at least, version 1 or 2, columns 1 to 9, and as many bytes as the stated notes take.
 fn header_ok(chart: &[u8]) -> bool
     ensures { λ r. ⌜ r ≡ okHead (now (chart .entry)) ⌝ }
 {
-    if chart.len() < 8 {
+    if chart.len() < HEADER_SIZE {
         return false;
     }
-    if chart[0] / 16 != 1 {
+    let version = version_of(chart);
+    if chart[0] / 16 != layout::number(version) {
         return false;
     }
     if chart[0] % 16 < 1 {
@@ -66,7 +82,35 @@ fn header_ok(chart: &[u8]) -> bool
     if chart[0] % 16 > 9 {
         return false;
     }
-    chart.len() == HEADER_SIZE + NOTE_SIZE * (get(chart, 1, 3) as usize)
+    chart.len() == layout::place(version, get(chart, 1, 3) as usize)
+}
+
+// Whether the notes that a header states may stand there, one after another.
+fn rows_ok(version: Version, columns: u8, chart: &[u8], count: usize) -> bool
+    requires { ⌜ (columns < columnValues) × (chartSizeIn version count ≤ length (now chart)) × (count ≤ mostInChart) ⌝ }
+    ensures { λ r. ⌜ r ≡ okRows version columns 0 count (drop headerSize (now (chart .entry))) ⌝ }
+{
+    let mut last = Note {
+        column: 0,
+        hold: false,
+        origin: Origin::Untold,
+        start: 0,
+        duration: 0,
+    };
+    let mut i = 0;
+    while i < count {
+        let at = layout::place(version, i);
+        if !zeros_ok(version, chart, at) {
+            return false;
+        }
+        let n = note_in(version, chart, at);
+        if !may_stand(columns, last, n) {
+            return false;
+        }
+        last = n;
+        i += 1;
+    }
+    true
 }
 
 // The draws in a chart's header.
@@ -83,29 +127,14 @@ pub fn read(chart: &[u8]) -> Answer
     if !header_ok(chart) {
         return Answer::Refused;
     }
+    let version = version_of(chart);
     let columns = chart[0] % 16;
     let notes = get(chart, 1, 3) as u32;
-    let count = notes as usize;
-    let mut last = Note {
-        column: 0,
-        hold: false,
-        start: 0,
-        duration: 0,
-    };
-    let mut i = 0;
-    while i < count {
-        let at = HEADER_SIZE + NOTE_SIZE * i;
-        if chart[at] % 8 != 0 {
-            return Answer::Refused;
-        }
-        let n = note_at(chart, at);
-        if !may_stand(columns, last, n) {
-            return Answer::Refused;
-        }
-        last = n;
-        i += 1;
+    if !rows_ok(version, columns, chart, notes as usize) {
+        return Answer::Refused;
     }
     Answer::Chart {
+        version,
         columns: columns as u32,
         notes,
         draws: draws_in(chart),
@@ -116,11 +145,15 @@ pub fn read(chart: &[u8]) -> Answer
 pub fn note(chart: &[u8], index: u32) -> Found
     ensures { λ r. ⌜ found r ≡ noteIn (now (chart .entry)) index ⌝ }
 {
-    let at = HEADER_SIZE + NOTE_SIZE * (index as usize);
-    if at + NOTE_SIZE > chart.len() {
+    if chart.len() < HEADER_SIZE {
         return Found::Nothing;
     }
-    Found::At(note_at(chart, at))
+    let version = version_of(chart);
+    let at = layout::place(version, index as usize);
+    if at + layout::note_size(version) > chart.len() {
+        return Found::Nothing;
+    }
+    Found::At(note_in(version, chart, at))
 }
 
 // The note of a place in a chart that was read.
@@ -133,6 +166,7 @@ pub fn note_of(chart: &[u8], place: u32) -> Note
         Found::Nothing => Note {
             column: 0,
             hold: false,
+            origin: Origin::Untold,
             start: 0,
             duration: 0,
         },

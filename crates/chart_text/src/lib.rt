@@ -1,9 +1,7 @@
 // The text of a chart, as `charttext` prints it: one line at a time into a lent buffer, or a whole chart.
 use chart::Answer;
 use chart::Note;
-use chart::layout::HEADER_SIZE;
-use chart::layout::NOTE_SIZE;
-use chart::rows::note_at;
+use chart_reader::note_of;
 use chart_reader::read;
 use text::put_decimal;
 use text::put_named;
@@ -11,10 +9,9 @@ use text::put_with_hex;
 use text::put_word;
 ghost use mathlib.Core.Path.{_≡_};
 ghost use Prim.Native.Nat.{_+_, _*_, _≤_, _<_};
-ghost use lib.ListN.{length, drop};
-ghost use Rattle.chart.specs.Layout.{chartSize};
+ghost use lib.ListN.{length};
 ghost use Rattle.chart.specs.Bytes.{splice};
-ghost use Rattle.chart.specs.Chart.{notesOf};
+ghost use Rattle.chart.specs.Chart.{notesIn};
 ghost use Rattle.chart_text.specs.Text.{headLine, noteLine, noteLines, refusalLine, text};
 
 // Stores a chart's first line from `at`, where there is room for 64 bytes, and gives the index after it.
@@ -57,16 +54,17 @@ pub fn put_refusal_line(s: &mut [u8], at: usize, number: u32, object: u32, draws
     put_word(s, c, b"\n")
 }
 
-// Stores the lines of the first notes of a chart, so many, from `at`, where there is room for 51 bytes each, and gives the index after them.
-fn put_note_lines(chart: &[u8], count: usize, s: &mut [u8], at: usize) -> usize
-    requires { ⌜ (chartSize count ≤ length (now chart)) × (at + 51 * count ≤ length (now s)) ⌝ }
-    ensures { λ r. ⌜ (r ≡ at + length (noteLines (notesOf count (drop 8 (now (chart .entry)))))) × (r ≤ at + 51 * count) ⌝ }
-    ensures { λ _. ⌜ now (s .exit) ≡ splice (now (s .entry)) at (noteLines (notesOf count (drop 8 (now (chart .entry))))) ⌝ }
+// Stores the lines of the notes of a chart, of which there are `count`, from `at`, where there is room for 51 bytes each, and gives the index after
+// them.
+fn put_note_lines(chart: &[u8], count: u32, s: &mut [u8], at: usize) -> usize
+    requires { ⌜ (count ≡ length (notesIn (now chart))) × (at + 51 * count ≤ length (now s)) ⌝ }
+    ensures { λ r. ⌜ (r ≡ at + length (noteLines (notesIn (now (chart .entry))))) × (r ≤ at + 51 * count) ⌝ }
+    ensures { λ _. ⌜ now (s .exit) ≡ splice (now (s .entry)) at (noteLines (notesIn (now (chart .entry)))) ⌝ }
 {
     let mut next = at;
     let mut i = 0;
     while i < count {
-        let n = note_at(chart, HEADER_SIZE + NOTE_SIZE * i);
+        let n = note_of(chart, i);
         next = put_note_line(s, next, n);
         i += 1;
     }
@@ -81,12 +79,13 @@ pub fn put_chart(chart: &[u8], s: &mut [u8]) -> usize
 {
     match read(chart) {
         Answer::Chart {
+            version: _,
             columns,
             notes,
             draws,
         } => {
             let at = put_head_line(s, 0, columns, notes, draws);
-            put_note_lines(chart, notes as usize, s, at)
+            put_note_lines(chart, notes, s, at)
         }
         Answer::Refused => 0,
     }

@@ -4,6 +4,7 @@ use Prim.Native.Nat.{ℕ, _≤_}
 use mathlib.Core.List.{List}
 use lib.ListN.{length, take}
 use Rattle.chart.specs.Chart.{decode}
+use Rattle.chart.specs.Lanes.{LaneRule}
 use Rattle.model.specs.Limits.{searchLimit}
 use Rattle.mania.specs.Job.{Answer, Job, accepted, refusal}
 use Rattle.mania.specs.Demand as OfJob
@@ -70,6 +71,8 @@ module _ (bytes buffer : List ℕ) where
             let r = charts .room a n g (answer a (J.Chart n g) x e) in
             (r .0, ap (λ (j : Job). length (j .chart)) e ∙ r .1);
         read = λ a n g x small e. ap (λ (j : Job). decode (take n (j .chart))) e ∙ charts .read a n g small (answer a (J.Chart n g) x e);
+        lane-rule = λ a n g x small e.
+            subst (λ (s : List ℕ). LaneRule (take n s)) (sym (ap (λ (j : Job). j .chart) e)) (charts .lanes a n g small (answer a (J.Chart n g) x e));
         needed = λ a i n x e. d .needed a i n (answer a (J.Refused 12 i n) x e);
         whole = λ a i n x e.
             let h = answer a (J.Refused 12 i n) x e in

@@ -2,8 +2,8 @@
 use mathlib.Core.Path.{_≡_, refl, sym, ap, ap₂, _∙_, subst}
 use Prim.Native.Nat.{ℕ, _-_, _≤_, _<_}
 use native.Mathlib.Nat.{zero-add, sub-self}
-use mathlib.Core.List.{List, [], map}
-use lib.ListN.{length, drop, length-map}
+use mathlib.Core.List.{List, []}
+use lib.ListN.{length, drop}
 use borrow.Author.Tests.{le-ltb, lt-ltb}
 use Rattle.rules.specs.Rule.{ended}
 use Rattle.rules.specs.Refusal.{number}
@@ -24,12 +24,13 @@ use Rattle.chart.specs.Laws.Order.{length-arranged}
 use Rattle.chart.specs.Laws.Arranged.{finished}
 use Rattle.model.specs.Song.{Song}
 use Rattle.mania.specs.declared.Note.{Note}
-use Rattle.mania.specs.Chart.{body, patternOf, inWalkOrder, written}
+use Rattle.chart.specs.declared.Version.the-variants.{Two}
+use Rattle.mania.specs.Chart.{patternsFrom, written}
 use Rattle.mania.specs.Convert.{seed, columnsOf, convert}
 use Rattle.mania.specs.Job.{Job, ending, refusing, under}
 use Rattle.mania.specs.Job as OfSong
 use Rattle.mania.specs.Walked.{Stop, stop, spentAt, refusedAt, onWalk}
-use Rattle.mania.specs.Laws.Walks.{job-made, job-stopped, splice-start}
+use Rattle.mania.specs.Laws.Walks.{job-made, job-stopped, splice-start, length-patterns}
 use Rattle.walk.specs.Steps.{Written}
 use Rattle.job.specs.Job.{jobOf, job}
 use Rattle.job.proofs.Read.{fits-all}
@@ -78,11 +79,8 @@ module _ (bytes buffer : List ℕ) (a : ℕ) (parsed : parse bytes ≡ accepted 
   refused-left room x e k = refused-run spentAt refusedAt _ start {B = Unit {0}} (λ o. tt) (λ y n. tt) (λ p n. refl) (λ r n. refl) x e k .1
 
   module _ (h : 8 ≤ length buffer) (exit : List ℕ) (notes : ℕ) (e : Draws) (w : Written (songRule bytes (length buffer) start) buffer exit notes e) where
-    abbrev ns : List Note
-    ns = inWalkOrder (w .nss)
-
     abbrev ps : List Patterns.Note
-    ps = map patternOf ns
+    ps = patternsFrom 0 (w .nss)
 
     abbrev n : ℕ
     n = a - e .tally .left
@@ -95,28 +93,27 @@ module _ (bytes buffer : List ℕ) (a : ℕ) (parsed : parse bytes ≡ accepted 
     made = job-made S buffer a (w .nss) e (walked h ∙ w .says)
 
     counted : length ps ≡ notes
-    counted = length-map ns patternOf ∙ sym (w .number)
+    counted = length-patterns 0 (w .nss) ∙ sym (w .number)
 
-    long : length (encode (columnsOf S) n (arranged [] ps)) ≡ chartSize notes
+    long : length (encode Two (columnsOf S) n (arranged [] ps)) ≡ chartSize notes
     long =
-        length-encode (columnsOf S) n (arranged [] ps)
+        length-encode Two (columnsOf S) n (arranged [] ps)
         ∙ ap (λ (k : ℕ). chartSize k) (length-arranged [] ps ∙ zero-add (length ps) ∙ counted)
 
     -- the notes stand behind the header's place
-    pub made-holds : Bytes.Holds exit 8 notes
-    unfolding body Bytes.body
+    pub made-holds : Bytes.Holds Two exit 8 notes
     made-holds =
-        let all = splice-holds buffer 8 ps h (fits-all bytes buffer S parsed a n (w .nss) ends) in
-        subst (λ (k : ℕ). Bytes.Holds exit 8 k) counted (subst (λ (s : List ℕ). Bytes.Holds s 8 (length ps)) (sym (w .written)) all)
+        let all = splice-holds Two buffer 8 ps h (fits-all bytes buffer S parsed a n (w .nss) ends) in
+        subst (λ (k : ℕ). Bytes.Holds Two exit 8 k) counted (subst (λ (s : List ℕ). Bytes.Holds Two s 8 (length ps)) (sym (w .written)) all)
 
     pub made-job : (columns size : ℕ) (last : List ℕ) → columns ≡ columnsOf S → size ≡ chartSize notes
-        → last ≡ splice exit 0 (encode columns n (arranged [] (notesOf notes (drop 8 exit)))) → jobEnd last (J.Chart size (e .tally .longest)) ≡ job bytes buffer a
-    unfolding ending body Bytes.body
+        → last ≡ splice exit 0 (encode Two columns n (arranged [] (notesOf Two notes (drop 8 exit)))) → jobEnd last (J.Chart size (e .tally .longest)) ≡ job bytes buffer a
+    unfolding ending
     made-job columns size last c z f =
         let room : chartSize (length ps) ≤ length buffer = subst (λ (k : ℕ). chartSize k ≤ length buffer) (sym counted) (w .room) in
-        let whole : splice exit 0 (encode columns n (arranged [] (notesOf notes (drop 8 exit)))) ≡ written (encode (columnsOf S) n (arranged [] ps)) buffer =
-        ap₂ (λ (k q : ℕ). splice exit 0 (encode k n (arranged [] (notesOf q (drop 8 exit))))) c (sym counted)
+        let whole : splice exit 0 (encode Two columns n (arranged [] (notesOf Two notes (drop 8 exit)))) ≡ written (encode Two (columnsOf S) n (arranged [] ps)) buffer =
+        ap₂ (λ (k q : ℕ). splice exit 0 (encode Two k n (arranged [] (notesOf Two q (drop 8 exit))))) c (sym counted)
         ∙ finished buffer exit (columnsOf S) n ps (w .written) room (fits-all bytes buffer S parsed a n (w .nss) ends)
-        ∙ splice-start buffer (encode (columnsOf S) n (arranged [] ps)) in
+        ∙ splice-start buffer (encode Two (columnsOf S) n (arranged [] ps)) in
         ap₂ {C = Job} (λ (k : ℕ) (v : List ℕ). record { answer = OfSong.accepted k (e .tally .longest); chart = v }) (z ∙ sym long) (f ∙ whole)
         ∙ sym (job-is ∙ made)

@@ -11,7 +11,9 @@ use Rattle.random.specs.Generator.{seeded, steps}
 use Rattle.random.specs.Play.{tallied}
 use Rattle.model.specs.Song.{Song}
 use Rattle.record.specs.Record.{accepted, parse}
+use Rattle.chart.specs.declared.Version.the-variants.{Two}
 use Rattle.chart.specs.Chart.{encode, decode}
+use Rattle.chart.specs.Lanes.{LaneRule}
 use Rattle.model.specs.Limits.{searchLimit}
 use Rattle.mania.specs.Convert.{seed}
 use Rattle.mania.specs.Convert as OfSong
@@ -41,7 +43,7 @@ Other r = Spent r → ⊥
 
 -- the bytes of the chart that the rules give
 abbrev pub chartBytes : (bytes buffer : List ℕ) → ℕ → List ℕ
-chartBytes bytes buffer a = encode (columns bytes) (draws bytes buffer a) (chartNotes bytes buffer a)
+chartBytes bytes buffer a = encode Two (columns bytes) (draws bytes buffer a) (chartNotes bytes buffer a)
 
 -- of calls on the same bytes with the same buffer lent
 pub record Demand (bytes buffer : List ℕ) : Type 0 where
@@ -60,7 +62,7 @@ pub record Demand (bytes buffer : List ℕ) : Type 0 where
   pub room : (a n g : ℕ) (x : List ℕ) → Answers bytes buffer a (J.Chart n g) x → (n ≤ length buffer) × (length x ≡ length buffer)
   -- under an allowance that a u32 has, the chart reader finds the same columns, draws and notes.
   pub read : (a n g : ℕ) (x : List ℕ) → a < 2 ^ 32 → Answers bytes buffer a (J.Chart n g) x
-      → decode (take n x) ≡ some (record { columns = columns bytes; draws = draws bytes buffer a; notes = chartNotes bytes buffer a })
+      → decode (take n x) ≡ some (record { version = Two; columns = columns bytes; draws = draws bytes buffer a; notes = chartNotes bytes buffer a })
   -- Demand 3. 12 is given only where a draw found no value left, and the whole allowance was used.
   pub needed : (a i n : ℕ) (x : List ℕ) → Answers bytes buffer a (J.Refused Numbers.noDrawLeft i n) x → (s : Song) × (parse bytes ≡ accepted s) × (under s buffer a ≡ spent i n)
   pub whole : (a i n : ℕ) (x : List ℕ) → Answers bytes buffer a (J.Refused Numbers.noDrawLeft i n) x → n ≡ a
@@ -81,6 +83,8 @@ pub record Demand (bytes buffer : List ℕ) : Type 0 where
   pub deck : (a n g : ℕ) (x : List ℕ) → Answers bytes buffer a (J.Chart n g) x
       → (1 ≤ columns bytes) × (columns bytes ≤ 9) × Each (Each (OnDeck (columns bytes))) (notes bytes buffer a)
   pub lanes : (a n g : ℕ) (x : List ℕ) → Answers bytes buffer a (J.Chart n g) x → Each Lanes (notes bytes buffer a)
+  -- So it is by the chart's bytes alone, whose notes name their objects.
+  pub lane-rule : (a n g : ℕ) (x : List ℕ) → a < 2 ^ 32 → Answers bytes buffer a (J.Chart n g) x → LaneRule (take n x)
   -- no chart is longer than the largest, and a buffer as long is never too short
   pub largest-chart : (a n g : ℕ) (x : List ℕ) → Answers bytes buffer a (J.Chart n g) x → n ≤ largestChart
   pub enough : largestChart ≤ length buffer → (a i n : ℕ) (x : List ℕ) → Answers bytes buffer a (J.Refused Numbers.chartTooShort i n) x → ⊥

@@ -1,34 +1,40 @@
 -- The chart of an accepted job is read: each note is one that the chart reader takes. Assumes nothing.
-use mathlib.Core.Path.{_≡_, refl, sym, ap, _∙_, subst}
+use mathlib.Core.Path.{_≡_, refl, sym, ap, ap₂, _∙_, subst}
 use Prim.Native.Nat.{ℕ, suc, _+_, _-_, _*_, _^_, _≤_, _<_}
 use native.Mathlib.Nat.{le-trans, le-refl, mul-le-mul-left, lt-of-le-of-lt, lt-of-lt-of-le, zero-add}
 use native.Mathlib.Omega.{arith}
-use mathlib.Core.List.{List, [], _∷_, map}
+use mathlib.Core.List.{List, [], _∷_, _++_, map}
 use mathlib.Core.Option.{some}
 use lib.Dec.{lit<, lit≤}
 use borrow.Author.Tests.{ltb-true}
-use lib.ListN.{length, take, drop, length-append, length-drop}
+use lib.ListN.{length, take, drop, length-append, length-drop, length-map}
 use lib.Seq.{take-at}
 use Rattle.model.specs.Limits.{mostRepeats, mostSpans, mostNotes, mostEntries, latestStart}
 use Rattle.rules.specs.Rule.{Outcome, ended, run, taken, Done}
 use Rattle.rules.specs.Rule as Rule
-use Rattle.rules.specs.Laws.Each.{each-append}
+use Rattle.rules.specs.Each.{EveryTwo}
+use Rattle.rules.specs.Laws.Each.{each-append, each-map}
 use Rattle.random.specs.Generator.{values, seeded}
 use Rattle.random.specs.Laws.Allowance.{done-le}
 use Rattle.chart.specs.Tests.{passes}
-use Rattle.chart.specs.Chart.{encode, decode, okNote, noteTests}
+use Rattle.chart.specs.Layout.{indices}
+use Rattle.chart.specs.declared.Version.the-variants.{Two}
+use Rattle.chart.specs.declared.Note as Patterns
+use Rattle.chart.specs.Lanes.{extentOf, extent, Apart}
+use Rattle.chart.specs.Laws.Times.{time-toBits}
+use Rattle.chart.specs.Chart.{encode, decode, okNote, noteTests, Tells}
 use Rattle.chart.specs.Layout.{chartSize}
-use Rattle.chart.specs.Laws.Notes.{length-encode, Fits}
+use Rattle.chart.specs.Laws.Notes.{length-encode, Fit, Fits}
 use Rattle.chart.specs.Laws.Reader.{note-fits}
 use Rattle.chart.specs.Order.{arranged}
-use Rattle.chart.specs.Laws.Order.{length-arranged}
+use Rattle.chart.specs.Laws.Order.{length-arranged, each-arranged, two-arranged}
 use Rattle.chart.specs.Written.{Alone, written-read}
 use Rattle.mania.specs.declared.Note.{Note}
 use Rattle.model.specs.declared.Object.{Object}
 use Rattle.model.specs.declared.Kind.{Kind}
 use Rattle.model.specs.declared.Kind.the-variants.{Circle, Slider, Spinner, Hold}
 use Rattle.mania.specs.LimitedQueue.{Density}
-use Rattle.mania.specs.Chart.{patternOf, inWalkOrder, written}
+use Rattle.mania.specs.Chart.{patternOf, patternsFrom, inWalkOrder, written}
 use Rattle.model.specs.Song.{Song}
 use Rattle.mania.specs.Convert.{AtObject, seed, columnsOf, songFacts, factsAt, convert}
 use Rattle.mania.specs.Job.{ending, refusing, under}
@@ -36,7 +42,8 @@ use Rattle.mania.specs.Job as OfSong
 use Rattle.mania.specs.Demand.{Each}
 use Rattle.mania.specs.Demand as Draws
 use Rattle.mania.proofs.Demand.{Fine, Sound, ended-notes, some-columns, few-columns}
-use Rattle.mania.proofs.Counts.{ended-few, ended-room}
+use Rattle.mania.specs.Laws.Walks.{length-patterns}
+use Rattle.mania.proofs.Counts.{ended-few, ended-room, ended-lists}
 use Rattle.record.specs.Record.{Parsed, refused, accepted, parse}
 use Rattle.job.specs.Job.{jobOf, job, columnsIn, columns, drawsOf, draws, notesIn, notesOf, notes}
 use Rattle.job.specs.Read.{chartNotes, Reads}
@@ -73,41 +80,92 @@ objects-fine columns s fit (o ∷ os) h =
 
 -- ---- from the notes of each object to those of the chart
 
-walk-each : (P : Note → Type 0) (nss : List (List Note)) → Each (Sound P) nss → Each P (inWalkOrder nss)
-unfolding inWalkOrder
-walk-each P [] h = tt
-walk-each P (ns ∷ nss) h = each-append P ns (inWalkOrder nss) (h .0 .1) (walk-each P nss (h .1))
+-- of the notes of each object, the first of them at index i, with what holds of each
+from-each : (P : Note → Type 0) (Q : Patterns.Note → Type 0) → ((i : ℕ) (n : Note) → i < indices → P n → Q (patternOf i n))
+    → (i : ℕ) (nss : List (List Note)) → i + length nss ≤ indices → Each (Each P) nss → Each Q (patternsFrom i nss)
+unfolding patternsFrom
+from-each P Q f i [] l h = tt
+from-each P Q f i (ns ∷ nss) l h = each-append Q (map (patternOf i) ns) (patternsFrom (suc i) nss) (here ns (h .0)) (from-each P Q f (suc i) nss (omega arith) (h .1))
+  where
+    here : (ns : List Note) → Each P ns → Each Q (map (patternOf i) ns)
+    here [] e = tt
+    here (n ∷ ns) e = (f i n (omega arith) (e .0), here ns (e .1))
 
-okay-written : (columns : ℕ) (ns : List Note) → Each (Okay columns) ns → Each (Alone columns) (map patternOf ns)
-okay-written columns [] h = tt
-okay-written columns (n ∷ ns) h = (h .0 .taken, okay-written columns ns (h .1))
+okay-fit : (columns : ℕ) → columns ≤ 9 → (i : ℕ) (n : Note) → i < indices → Okay columns n → Fit Two (patternOf i n)
+unfolding okNote noteTests patternOf Tells
+okay-fit columns c i n l h =
+    let f = note-fits columns 0 (patternOf i n) (h .taken i) in
+    record {
+      column = omega (arith, ltb-true (n .column) columns (passes (noteTests columns 0 (patternOf i n)) (h .taken i) 0));
+      told = l;
+      start = lt-of-lt-of-le (f .0) (lit≤ tt);
+      duration = lt-of-lt-of-le (f .1) (lit≤ tt);
+    }
 
-okay-fits : (columns : ℕ) → columns ≤ 9 → (ns : List Note) → Each (Okay columns) ns → Fits (map patternOf ns)
+okay-on : (columns i : ℕ) (n : Note) → Okay columns n → patternOf i n .column < columns
 unfolding okNote noteTests
-okay-fits columns c [] h = tt
-okay-fits columns c (n ∷ ns) h =
-    let f = note-fits columns 0 (patternOf n) (h .0 .taken) in (
-      record {
-        column = omega (arith, ltb-true (patternOf n .column) columns (passes (noteTests columns 0 (patternOf n)) (h .0 .taken) 0));
-        start = lt-of-lt-of-le (f .0) (lit≤ tt);
-        duration = lt-of-lt-of-le (f .1) (lit≤ tt);
-      },
-      okay-fits columns c ns (h .1),
-    )
+okay-on columns i n h = ltb-true (patternOf i n .column) columns (passes (noteTests columns 0 (patternOf i n)) (h .taken i) 0)
 
-length-patterns : (ns : List Note) → length (map patternOf ns) ≡ length ns
-length-patterns [] = refl
-length-patterns (n ∷ ns) = ap suc (length-patterns ns)
+-- ---- lanes by the notes of a chart
+
+-- two notes of one object do not share a lane
+abbrev Parted : Patterns.Note → Patterns.Note → Type 0
+Parted n m = n .origin ≡ m .origin → Apart (extent n) (extent m)
+
+turned : (n m : Patterns.Note) → Parted n m → Parted m n
+unfolding Apart
+turned n m h o c t k l = h (sym o) (sym c) t l k
+
+extent-is : (columns i : ℕ) (n : Note) → Okay columns n → extent (patternOf i n) ≡ Draws.extent n
+unfolding patternOf extent extentOf
+extent-is columns i n h = rw (time-toBits (n .start) (h .exact), time-toBits (n .duration) (h .lasts-exact))
+
+module _ (columns : ℕ) where
+  -- within an object
+  own-lanes : (i : ℕ) (n : Note) (ns : List Note) → Okay columns n → Each (Okay columns) ns → Each (λ m. Apart (Draws.extent n) (Draws.extent m)) ns
+      → Each (Parted (patternOf i n)) (map (patternOf i) ns)
+  own-lanes i n [] h e a = tt
+  own-lanes i n (m ∷ ms) h e a =
+      (λ o. rw (extent-is columns i n h, extent-is columns i m (e .0)) (a .0), own-lanes i n ms h (e .1) (a .1))
+
+  -- later objects have other indices
+  other-lanes : (i k : ℕ) (n : Note) (nss : List (List Note)) → i < k → Each (Parted (patternOf i n)) (patternsFrom k nss)
+  unfolding patternsFrom patternOf
+  other-lanes i k n [] l = tt
+  other-lanes i k n (ms ∷ nss) l =
+      each-append (Parted (patternOf i n)) (map (patternOf k) ms) (patternsFrom (suc k) nss) (here ms) (other-lanes i (suc k) n nss (omega arith))
+    where
+      here : (ms : List Note) → Each (Parted (patternOf i n)) (map (patternOf k) ms)
+      here [] = tt
+      here (m ∷ ms) = (λ o. let same : i ≡ k = cc in absurd (omega arith), here ms)
+
+  every-lane : (i : ℕ) (nss : List (List Note)) → Each (Each (Okay columns)) nss → Each Draws.Lanes nss → EveryTwo Parted (patternsFrom i nss)
+  unfolding patternsFrom
+  every-lane i [] h a = tt
+  every-lane i (ns ∷ nss) h a = go ns (h .0) (a .0) (every-lane (suc i) nss (h .1) (a .1))
+    where
+      go : (ns : List Note) → Each (Okay columns) ns → Draws.Lanes ns → EveryTwo Parted (patternsFrom (suc i) nss) → EveryTwo Parted (map (patternOf i) ns ++ patternsFrom (suc i) nss)
+      go [] e b rest = rest
+      go (n ∷ ns) e b rest = (
+        each-append (Parted (patternOf i n)) (map (patternOf i) ns) (patternsFrom (suc i) nss) (own-lanes i n ns (e .0) (e .1) (b .0)) (other-lanes i (suc i) n nss (omega arith)),
+        go ns (e .1) (b .1) rest,
+      )
 
 module _ (s buffer : List ℕ) (r : Song) (e : parse s ≡ accepted r) (a n : ℕ) (nss : List (List Note)) (u : under r buffer a ≡ ended nss n) where
-  okay-all : Each (Okay (columnsOf r)) (inWalkOrder nss)
-  okay-all =
+  sound-all : Each (Sound (Okay (columnsOf r))) nss
+  sound-all =
       let fit = fit-song s r e in
-      walk-each _ nss (ended-notes (Okay (columnsOf r)) r buffer (objects-fine (columnsOf r) r fit (r .objects) (fit .objects)) a n nss u)
+      ended-notes (Okay (columnsOf r)) r buffer (objects-fine (columnsOf r) r fit (r .objects) (fit .objects)) a n nss u
+
+  okay-all : Each (Each (Okay (columnsOf r))) nss
+  okay-all = each-map (Sound (Okay (columnsOf r))) (Each (Okay (columnsOf r))) (λ ns h. h .1) nss sound-all
+
+  few-lists : 0 + length nss ≤ indices
+  few-lists = let fit = fit-song s r e in omega (arith, ended-lists r buffer a n nss u, fit .few)
 
   -- the notes fit the fields of a chart
-  pub fits-all : Fits (map patternOf (inWalkOrder nss))
-  fits-all = okay-fits (columnsOf r) (few-columns r (accepted-keys s r e)) (inWalkOrder nss) okay-all
+  pub fits-all : Fits Two (patternsFrom 0 nss)
+  fits-all = from-each (Okay (columnsOf r)) (Fit Two) (okay-fit (columnsOf r) (few-columns r (accepted-keys s r e))) 0 nss few-lists okay-all
 
   drawn : n ≤ a
   unfolding under taken
@@ -123,17 +181,29 @@ module _ (s buffer : List ℕ) (r : Song) (e : parse s ≡ accepted r) (a n : �
       le-trans (ended-few r buffer (few-columns r (accepted-keys s r e)) (objects-in-range s r e) a n nss u) (mul-le-mul-left mostNotes (fit .few))
 
   module _ (small : a < 2 ^ 32) where
-    pub read-back : decode (encode (columnsOf r) n (arranged [] (map patternOf (inWalkOrder nss))))
-        ≡ some (record { columns = columnsOf r; draws = n; notes = arranged [] (map patternOf (inWalkOrder nss)) })
+    pub read-back : decode (encode Two (columnsOf r) n (arranged [] (patternsFrom 0 nss)))
+        ≡ some (record { version = Two; columns = columnsOf r; draws = n; notes = arranged [] (patternsFrom 0 nss) })
     read-back =
-        written-read (columnsOf r) n (map patternOf (inWalkOrder nss)) (some-columns r) (few-columns r (accepted-keys s r e))
-        (lt-of-le-of-lt drawn small) (rw (length-patterns (inWalkOrder nss)) (lt-of-le-of-lt few-all (lit< tt))) (okay-written (columnsOf r) (inWalkOrder nss) okay-all)
+        written-read Two (columnsOf r) n (patternsFrom 0 nss) (some-columns r) (few-columns r (accepted-keys s r e))
+        (lt-of-le-of-lt drawn small) (rw (length-patterns 0 nss) (lt-of-le-of-lt few-all (lit< tt)))
+        (from-each (Okay (columnsOf r)) (Alone (columnsOf r)) (λ i n l h. h .taken i) 0 nss few-lists okay-all)
+        (each-map (Fit Two) (λ n. Tells Two (n .origin)) (λ n f. f .told) (patternsFrom 0 nss) fits-all)
+
+  -- each of them lies on the deck, and no two of one object share a lane
+  pub deck-all : Each (λ n. n .column < columnsOf r) (arranged [] (patternsFrom 0 nss))
+  deck-all = each-arranged (λ n. n .column < columnsOf r) [] (patternsFrom 0 nss) tt (from-each (Okay (columnsOf r)) (λ n. n .column < columnsOf r) on 0 nss few-lists okay-all)
+    where
+      on : (i : ℕ) (n : Note) → i < indices → Okay (columnsOf r) n → patternOf i n .column < columnsOf r
+      on i n l h = okay-on (columnsOf r) i n h
+
+  pub lanes-all : EveryTwo Parted (arranged [] (patternsFrom 0 nss))
+  lanes-all = two-arranged Parted turned (patternsFrom 0 nss) (every-lane (columnsOf r) 0 nss okay-all (each-map (Sound (Okay (columnsOf r))) Draws.Lanes (λ ns h. h .0) nss sound-all))
 
 -- ---- the job
 
 chart-of : (c : ℕ) (buffer : List ℕ) (g : ℕ) (o : Outcome ℕ AtObject (List (List Note))) (n k : ℕ) → ending c buffer g o .answer ≡ OfSong.accepted n k
-    → (ending c buffer g o .chart ≡ written (encode c (taken o) (arranged [] (map patternOf (inWalkOrder (notesIn o))))) buffer)
-    × (n ≡ length (encode c (taken o) (arranged [] (map patternOf (inWalkOrder (notesIn o))))))
+    → (ending c buffer g o .chart ≡ written (encode Two c (taken o) (arranged [] (patternsFrom 0 (notesIn o)))) buffer)
+    × (n ≡ length (encode Two c (taken o) (arranged [] (patternsFrom 0 (notesIn o)))))
 unfolding ending refusing taken notesIn
 chart-of c buffer g (ended nss m) n k e = (refl, sym (ap told e))
   where
@@ -156,14 +226,16 @@ length-written bytes buffer h = length-append bytes (drop (length bytes) buffer)
 
 -- of what was parsed
 record ReadsOf (c d : ℕ) (nss : List (List Note)) (buffer : List ℕ) (a n : ℕ) : Type 0 where
-  long : n ≡ length (encode c d (arranged [] (map patternOf (inWalkOrder nss))))
-  room : length (encode c d (arranged [] (map patternOf (inWalkOrder nss)))) ≤ length buffer
+  long : n ≡ length (encode Two c d (arranged [] (patternsFrom 0 nss)))
+  room : length (encode Two c d (arranged [] (patternsFrom 0 nss))) ≤ length buffer
   few : length (inWalkOrder nss) ≤ mostNotes * mostEntries
-  read : a < 2 ^ 32 → decode (encode c d (arranged [] (map patternOf (inWalkOrder nss))))
-      ≡ some (record { columns = c; draws = d; notes = arranged [] (map patternOf (inWalkOrder nss)) })
+  deck : Each (λ n. n .column < c) (arranged [] (patternsFrom 0 nss))
+  lanes : EveryTwo Parted (arranged [] (patternsFrom 0 nss))
+  read : a < 2 ^ 32 → decode (encode Two c d (arranged [] (patternsFrom 0 nss)))
+      ≡ some (record { version = Two; columns = c; draws = d; notes = arranged [] (patternsFrom 0 nss) })
 
 reads-of : (s buffer : List ℕ) (p : Parsed) → parse s ≡ p → (a n g : ℕ) → jobOf p buffer a .answer ≡ OfSong.accepted n g
-    → (jobOf p buffer a .chart ≡ written (encode (columnsIn p) (drawsOf p buffer a) (arranged [] (map patternOf (inWalkOrder (notesOf p buffer a))))) buffer)
+    → (jobOf p buffer a .chart ≡ written (encode Two (columnsIn p) (drawsOf p buffer a) (arranged [] (patternsFrom 0 (notesOf p buffer a)))) buffer)
     × ReadsOf (columnsIn p) (drawsOf p buffer a) (notesOf p buffer a) buffer a n
 unfolding jobOf columnsIn drawsOf notesOf refusing OfSong.job Draws.draws
 reads-of s buffer (refused m) e a n g h = let z : _≡_ {A = ℕ} 1 0 = ap refuses h in absurd (omega arith)
@@ -176,10 +248,12 @@ reads-of s buffer (accepted r) e a n g h =
       record {
         long = k .1;
         room =
-            let ns = map patternOf (inWalkOrder (notesIn o)) in
-            rw (length-encode c (taken o) (arranged [] ns), length-arranged [] ns, zero-add (length ns), length-patterns (inWalkOrder (notesIn o)))
+            let ns = patternsFrom 0 (notesIn o) in
+            rw (length-encode Two c (taken o) (arranged [] ns), length-arranged [] ns, zero-add (length ns), length-patterns 0 (notesIn o))
             (ended-room r buffer a (taken o) (notesIn o) u);
         few = few-all s buffer r e a (taken o) (notesIn o) u;
+        deck = deck-all s buffer r e a (taken o) (notesIn o) u;
+        lanes = lanes-all s buffer r e a (taken o) (notesIn o) u;
         read = λ small. read-back s buffer r e a (taken o) (notesIn o) u small;
       },
     )
@@ -192,25 +266,31 @@ reads s buffer =
       long = λ a n g h. reads-of s buffer (parse s) refl a n g h .1 .long;
       room = λ a n g h.
           let k = reads-of s buffer (parse s) refl a n g h in
-          let b : List ℕ = encode (columns s) (draws s buffer a) (chartNotes s buffer a) in
+          let b : List ℕ = encode Two (columns s) (draws s buffer a) (chartNotes s buffer a) in
           (subst (λ (i : ℕ). i ≤ length buffer) (sym (k .1 .long)) (k .1 .room), ap length (k .0) ∙ length-written b buffer (k .1 .room));
-      read = λ a n g small h.
-          let k = reads-of s buffer (parse s) refl a n g h in
-          let b : List ℕ = encode (columns s) (draws s buffer a) (chartNotes s buffer a) in
-          let taken-is : take n (job s buffer a .chart) ≡ b =
-          ap (λ (i : ℕ). take i (job s buffer a .chart)) (k .1 .long) ∙ ap (take (length b)) (k .0) ∙ take-written b buffer in
-          ap decode taken-is ∙ k .1 .read small;
+      read = λ a n g small h. found a n g small h;
+      lanes = λ a n g small h. let k = reads-of s buffer (parse s) refl a n g h in
+          record { score = _; read = found a n g small h; deck = k .1 .deck; lanes = k .1 .lanes };
     }
+  where
+    found : (a n g : ℕ) → a < 2 ^ 32 → job s buffer a .answer ≡ OfSong.accepted n g
+        → decode (take n (job s buffer a .chart)) ≡ some (record { version = Two; columns = columns s; draws = draws s buffer a; notes = chartNotes s buffer a })
+    found a n g small h =
+        let k = reads-of s buffer (parse s) refl a n g h in
+        let b : List ℕ = encode Two (columns s) (draws s buffer a) (chartNotes s buffer a) in
+        let taken-is : take n (job s buffer a .chart) ≡ b =
+        ap (λ (i : ℕ). take i (job s buffer a .chart)) (k .1 .long) ∙ ap (take (length b)) (k .0) ∙ take-written b buffer in
+        ap decode taken-is ∙ k .1 .read small
 
 -- no chart is longer than that of the most objects, each with the most notes
 pub chart-few : (s buffer : List ℕ) (a n g : ℕ) → job s buffer a .answer ≡ OfSong.accepted n g → n ≤ chartSize (mostNotes * mostEntries)
 unfolding job
 chart-few s buffer a n g h =
     let k = reads-of s buffer (parse s) refl a n g h .1 in
-    let ns = map patternOf (inWalkOrder (notesOf (parse s) buffer a)) in
-    let size = k .long ∙ length-encode _ _ (arranged [] ns) in
+    let ns = patternsFrom 0 (notesOf (parse s) buffer a) in
+    let size = k .long ∙ length-encode Two _ _ (arranged [] ns) in
     size-few n (length (inWalkOrder (notesOf (parse s) buffer a)))
-    (rw (size, length-arranged [] ns, zero-add (length ns), length-patterns (inWalkOrder (notesOf (parse s) buffer a)))) (k .few)
+    (rw (size, length-arranged [] ns, zero-add (length ns), length-patterns 0 (notesOf (parse s) buffer a))) (k .few)
   where
     size-few : (n k : ℕ) → n ≡ chartSize k → k ≤ mostNotes * mostEntries → n ≤ chartSize (mostNotes * mostEntries)
     size-few n k e h = omega arith

@@ -71,8 +71,9 @@ ticks-some x f v h = some-ticks (num x) (den x) (ticks x) (2 ^ 1074) h (pow-pos 
 
 -- the chart reader takes the note, wherever its start is in order
 pub record Okay (columns : ℕ) (n : Note) : Type 0 where
-  pub taken : okNote columns 0 (patternOf n) ≡ true
+  pub taken : (i : ℕ) → okNote columns 0 (patternOf i n) ≡ true
   pub exact : T (fits binary64 (n .start))
+  pub lasts-exact : T (fits binary64 (n .duration))
 
 module _ (columns c : ℕ) (on : c < columns) (x : Float) (f : T (fits binary64 x)) (v : Sized x) where
   note-okay : (hold : Bool) (d : Float) → T (fits binary64 d) → isTime d ≡ true → lasts hold (toBits binary64 d) ≡ true → ticks x + ticks d ≤ latest
@@ -80,10 +81,11 @@ module _ (columns c : ℕ) (on : c < columns) (x : Float) (f : T (fits binary64 
   unfolding patternOf
   note-okay hold d g w l h =
       record {
-        taken =
+        taken = λ i.
             sym (note-decided columns 0 _ (lt-ltb c columns on) (ap isTime (time-toBits x f) ∙ sized-time x v) (ap isTime (time-toBits d g) ∙ w) (first-rank _) l)
             ∙ rw (time-toBits x f, time-toBits d g) (le-leb (ticks x + ticks d) latest h);
         exact = f;
+        lasts-exact = g;
       }
 
   circle-okay : ticks x ≤ latest → Okay columns (circle c x)

@@ -387,3 +387,21 @@ convert-room s room =
 pub ended-room : (s : Song) (buffer : List ℕ) (a n : ℕ) (nss : List (List Note)) → under s buffer a ≡ ended nss n → chartSize (length (inWalkOrder nss)) ≤ length buffer
 unfolding under
 ended-room s buffer a n nss e = ran _ (convert s (length buffer)) (convert-room s (length buffer) .made) (seeded (seed (s .settings))) a nss n e
+
+-- ---- a list of notes for each object
+
+walk-lists : (s : SongFacts) (columns room i : ℕ) (w : Walk) (os : List Object) → Makes (λ nss. length nss ≡ length os) (Convert.walk s columns room i w os)
+unfolding Convert.walk
+walk-lists s columns room i w [] = giving refl
+walk-lists s columns room i w (o ∷ os) =
+    let d = Convert.meets (o .kind) (o .start) (w .density) in
+    let f = Convert.factsAt s d o in
+    seq any (λ made k. seq (walk-lists s columns room (suc i) (Convert.afterObject f o d made w) os) (λ rest l. giving (ap suc l)))
+
+convert-lists : (s : Song) (room : ℕ) → Makes (λ nss. length nss ≡ length (s .objects)) (convert s room)
+unfolding convert
+convert-lists s room = by (ltb room 8) _ _ (λ e. refusing) (λ e. walk-lists (songFacts s) (columnsOf s) room 0 Convert.beginning (s .objects))
+
+pub ended-lists : (s : Song) (buffer : List ℕ) (a n : ℕ) (nss : List (List Note)) → under s buffer a ≡ ended nss n → length nss ≡ length (s .objects)
+unfolding under
+ended-lists s buffer a n nss e = ran _ (convert s (length buffer)) (convert-lists s (length buffer) .made) (seeded (seed (s .settings))) a nss n e

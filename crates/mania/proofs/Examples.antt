@@ -35,13 +35,13 @@ holding =
       objects = record { position = record { x = single 0 1; y = single 0 1 }; start = double 1000 1; sound = 0; kind = Hold (double 300 1) } ∷ [];
     }
 
--- its whole job, with a buffer of 26 bytes lent and one draw allowed
-hold-job : job holding (replicate 26 165) 1
+-- its whole job, with a buffer of 28 bytes lent and one draw allowed
+hold-job : job holding (replicate 28 165) 1
     ≡ record {
-      answer = accepted 25 0;
+      answer = accepted 27 0;
       chart =
-          0x19 ∷ 0 ∷ 0 ∷ 1 ∷ 0 ∷ 0 ∷ 0 ∷ 1
-          ∷ 0x18 ∷ 0x40 ∷ 0x8f ∷ 0x40 ∷ 0 ∷ 0 ∷ 0 ∷ 0 ∷ 0 ∷ 0x40 ∷ 0x72 ∷ 0xc0 ∷ 0 ∷ 0 ∷ 0 ∷ 0 ∷ 0 ∷ 165 ∷ [];
+          0x29 ∷ 0 ∷ 0 ∷ 1 ∷ 0 ∷ 0 ∷ 0 ∷ 1
+          ∷ 0x18 ∷ 0 ∷ 0 ∷ 0x40 ∷ 0x8f ∷ 0x40 ∷ 0 ∷ 0 ∷ 0 ∷ 0 ∷ 0 ∷ 0x40 ∷ 0x72 ∷ 0xc0 ∷ 0 ∷ 0 ∷ 0 ∷ 0 ∷ 0 ∷ 165 ∷ [];
     }
 unfolding computing
 hold-job = refl

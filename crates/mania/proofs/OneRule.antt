@@ -78,7 +78,7 @@ module _ (s : SongFacts) (columns i : ℕ) (w : Walk) (o : Object) (os : List Ob
 
   -- what both come to
   data Both : Type 0 where
-    both-made : (m : Made) (n : ℕ) → Entry ≡ record { answer = made (length (m .notes)) (m .mask) (m .last) (m .stair) (steps n (d .random)) n; notes = written (body (m .notes)) buffer }
+    both-made : (m : Made) (n : ℕ) → Entry ≡ record { answer = made (length (m .notes)) (m .mask) (m .last) (m .stair) (steps n (d .random)) n; notes = written (body 0 (m .notes)) buffer }
         → Here ≡ before (m .notes ∷ []) (onWalk (walk s columns Room (suc i) (afterObject (facts s columns i w o os d buffer) o (met s columns i w o os d buffer) m w) os) (tallied (a - n) most (steps n (d .random)))) → Both
     both-refused : (k : ℕ) (e : Draws) → Entry ≡ refusing k (d .random) buffer → Here ≡ refused (stop i k) e → Both
 
@@ -104,7 +104,7 @@ module _ (s : SongFacts) (columns i : ℕ) (w : Walk) (o : Object) (os : List Ob
         go false l =
             both-made m n
             (single-made (facts s columns i w o os d buffer) (w .prev) columns o (d .random) a buffer passes m _ (rule-is 0 (ended m n) u) l
-            ∙ ap (λ (k : ℕ). record { answer = made (length (m .notes)) (m .mask) (m .last) (m .stair) (steps n (d .random)) k; notes = written (body (m .notes)) buffer }) (sub-sub-self small))
+            ∙ ap (λ (k : ℕ). record { answer = made (length (m .notes)) (m .mask) (m .last) (m .stair) (steps n (d .random)) k; notes = written (body 0 (m .notes)) buffer }) (sub-sub-self small))
             (sym (before-none Here) ∙ walk-made s columns Room i w o os d m _ (rule-is (d .tally .longest) (ended m n) u) (sym (same-room (w .notes) (length (m .notes)) (length buffer)) ∙ l) [])
 
   abbrev madeOf : Single.Answer → ℕ × ℕ × ℕ × Stair × Random × ℕ

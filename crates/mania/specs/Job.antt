@@ -1,6 +1,6 @@
 -- What a job gives on a song that was read: its answer and the bytes of the chart buffer. Assumes nothing.
 use Prim.Native.Nat.{ℕ}
-use mathlib.Core.List.{List, [], map}
+use mathlib.Core.List.{List, []}
 use lib.ListN.{length, replicate}
 use Rattle.rules.specs.Rule.{Outcome, ended, refused, spent, run}
 use Rattle.rules.specs.Ledger.{Ledger, ledger, largest}
@@ -9,9 +9,10 @@ use Rattle.random.specs.Generator.{values, seeded}
 use Rattle.mania.specs.declared.Note.{Note}
 use Rattle.model.specs.Song.{Song}
 use Rattle.mania.specs.Convert.{AtObject, seed, columnsOf, convert}
+use Rattle.chart.specs.declared.Version.the-variants.{Two}
 use Rattle.chart.specs.Chart.{encode}
 use Rattle.chart.specs.Order.{arranged}
-use Rattle.mania.specs.Chart.{patternOf, inWalkOrder, written}
+use Rattle.mania.specs.Chart.{patternsFrom, written}
 
 -- an accepted job's answer is the chart's length in bytes and the most draws of one search, a refused one's its number, the object's index and the draws
 -- so far
@@ -31,7 +32,7 @@ refusing r i draws buffer = record { answer = refusal r i draws; chart = replica
 -- a job's end, from the draws of its longest search and from how the rules end: 12 is a draw that found no value left
 unfoldable pub ending : ℕ → List ℕ → ℕ → Outcome ℕ AtObject (List (List Note)) → Job
 ending columns buffer longest (ended nss n) =
-    let chart = encode columns n (arranged [] (map patternOf (inWalkOrder nss))) in
+    let chart = encode Two columns n (arranged [] (patternsFrom 0 nss)) in
     record { answer = accepted (length chart) longest; chart = written chart buffer }
 ending columns buffer longest (refused r n) = refusing (number (r .refusal)) (r .object) n buffer
 ending columns buffer longest (spent i n) = refusing spentNumber i n buffer

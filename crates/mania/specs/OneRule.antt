@@ -57,7 +57,7 @@ module _ (s : SongFacts) (columns i : ℕ) (w : Walk) (o : Object) (os : List Ob
     -- the notes are those that the entry wrote
     pub notes : List Note
     pub count : k ≡ length notes
-    pub bytes : entry .notes ≡ written (body notes) buffer
+    pub bytes : entry .notes ≡ written (body 0 notes) buffer
     -- as many draws fewer are left, and the longest search may be one of the object's
     pub walks : here ≡ before (notes ∷ []) (next mask last stair k (tallied (d .tally .left - n) (max (d .tally .longest) (longest rule (values (d .tally .left) (d .random)))) r))
 

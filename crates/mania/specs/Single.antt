@@ -111,10 +111,10 @@ pub record Single : Type 0 where
 unfoldable pub refusing : ℕ → Random → List ℕ → Single
 refusing k r buffer = record { answer = refusal k r; notes = buffer }
 
--- notes are written from the buffer's start
+-- notes are written from the buffer's start, as those of object 0
 unfoldable pub ending : Random → List ℕ → Outcome (Unit {0}) Refusal Made → Single
 ending r buffer (ended m n) =
-    record { answer = made (length (m .notes)) (m .mask) (m .last) (m .stair) (steps n r) n; notes = written (body (m .notes)) buffer }
+    record { answer = made (length (m .notes)) (m .mask) (m .last) (m .stair) (steps n r) n; notes = written (body 0 (m .notes)) buffer }
 ending r buffer (refused k n) = refusing (number k) r buffer
 ending r buffer (spent p n) = refusing spentNumber r buffer
 

@@ -54,7 +54,7 @@ module _ (f : Facts) (v : PrevValues) (columns : ℕ) (o : Object) (r : Random) 
     -- the notes, and where they are written; later bytes keep their values
     pub notes : List Note
     pub count : k ≡ length notes
-    pub bytes : entry a .notes ≡ written (body notes) buffer
+    pub bytes : entry a .notes ≡ written (body 0 notes) buffer
     pub room : noteSize * k ≤ length buffer
     -- each lies on the deck, and no two share a lane
     pub deck : Each (OnDeck columns) notes

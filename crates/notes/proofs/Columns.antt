@@ -7,6 +7,9 @@ use lib.Dec.{eqb}
 use lib.Ieee.{Float, le}
 use lib.Pow.{pow-pos}
 use Rattle.rules.specs.Rule.{if_then_else_}
+use Rattle.chart.specs.Layout.{indices}
+use Rattle.chart.specs.Chart.{index}
+use Rattle.chart.specs.declared.Origin.the-variants as Origin
 use Rattle.chart.specs.declared.Note as Patterns
 use Rattle.model.specs.declared.Object.{Object}
 use Rattle.mania.specs.declared.Note.{Note}
@@ -33,17 +36,21 @@ slider-column : (b : SliderNote) → noteOf b .column ≡ b .column
 unfolding noteOf circle
 slider-column b = either (eqb (b .start) (b .end)) _ _ (b .column) refl refl
 
-pub slider-narrow : (w : ℕ) → patternOf (noteOfWord w) .column < 16
+pub slider-narrow : (i w : ℕ) → patternOf i (noteOfWord w) .column < 16
 unfolding patternOf noteOfWord ofWord
-slider-narrow w = subst (λ (c : ℕ). c < 16) (sym (slider-column (ofWord w))) (four-bits _)
+slider-narrow i w = subst (λ (c : ℕ). c < 16) (sym (slider-column (ofWord w))) (four-bits _)
 
--- a pattern in a word's column
-abbrev pub rowIn : Patterns.Note → ℕ → Patterns.Note
-rowIn p w = record { column = w % 2 ^ 4; hold = p .hold; start = p .start; duration = p .duration }
+pub told-below : (i : ℕ) (n : Note) → i < indices → index (patternOf i n .origin) < indices
+unfolding patternOf
+told-below i n h = h
 
-pub row-is : (n : Note) → rowIn (patternOf n) ≡ (λ (w : ℕ). patternOf (inColumn n w))
+-- a pattern in a word's column, of the object at index i
+abbrev pub rowIn : ℕ → Patterns.Note → ℕ → Patterns.Note
+rowIn i p w = record { column = w % 2 ^ 4; hold = p .hold; origin = Origin.Object i; start = p .start; duration = p .duration }
+
+pub row-is : (i : ℕ) (n : Note) → rowIn i (patternOf i n) ≡ (λ (w : ℕ). patternOf i (inColumn n w))
 unfolding patternOf inColumn
-row-is n = refl
+row-is i n = refl
 
 pub circles-in : (start : Float) → inColumn (circle 0 start) ≡ circleAt start
 unfolding inColumn circle circleAt

@@ -60,5 +60,5 @@ module _ (f : Facts) (v : PrevValues) (columns : ℕ) (o : Object) (r : Random) 
   ended-single x (full l same k) = ap₂ singleEnd same k ∙ sym (single-full f v columns o r a entry passes (madeBy (noteAt o) words p stair) e (sym says) (longer true l))
   ended-single x (kept l same k) =
       ap₂ singleEnd same k
-      ∙ ap {B = Single} (λ (n : ℕ). record { answer = made n (p .mask) (p .last) stair (e .random) (a - e .tally .left); notes = written (body (madeBy (noteAt o) words p stair .notes)) entry }) (sym (note-count (noteAt o) words (p .count) size))
+      ∙ ap {B = Single} (λ (n : ℕ). record { answer = made n (p .mask) (p .last) stair (e .random) (a - e .tally .left); notes = written (body 0 (madeBy (noteAt o) words p stair .notes)) entry }) (sym (note-count (noteAt o) words (p .count) size))
       ∙ sym (single-made f v columns o r a entry passes (madeBy (noteAt o) words p stair) e (sym says) (longer false l))

@@ -22,8 +22,8 @@ abbrev pub singleEnd : List ℕ → SingleEnd → Single
 singleEnd notes (E.Made n mask last stair random draws) = record { answer = made n mask last stair random draws; notes = notes }
 singleEnd notes (E.Refused n random) = record { answer = refusal n random; notes = notes }
 
--- the notes are written from the buffer's start, or it is too short for them and stays as it was
+-- the notes are written from the buffer's start, as those of object 0, or it is too short for them and stays as it was
 pub data Keeps (entry exit words : List ℕ) (o : Object) (p : Pattern) (stair : Stair) (lent : Random) (allowance : ℕ) (e : Draws) (r : SingleEnd) : Type 0 where
   full : ltb (length entry) (noteSize * p .count) ≡ true → exit ≡ entry → r ≡ E.Refused Numbers.chartTooShort lent → Keeps entry exit words o p stair lent allowance e r
-  kept : ltb (length entry) (noteSize * p .count) ≡ false → exit ≡ written (body (map (noteAt o) (take (p .count) words))) entry
+  kept : ltb (length entry) (noteSize * p .count) ≡ false → exit ≡ written (body 0 (map (noteAt o) (take (p .count) words))) entry
       → r ≡ E.Made (p .count) (p .mask) (p .last) stair (e .random) (allowance - e .tally .left) → Keeps entry exit words o p stair lent allowance e r

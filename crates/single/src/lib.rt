@@ -42,7 +42,7 @@ fn keep(
     if notes.len() < NOTE_SIZE * count {
         return SingleEnd::Refused(numbers::CHART_TOO_SHORT, lent);
     }
-    notes::put_notes(o, words, count, notes, 0);
+    notes::put_notes(0, o, words, count, notes, 0);
     let random = e.random;
     let after = e.tally;
     SingleEnd::Made(

@@ -6,6 +6,7 @@ use mathlib.Core.List.{List, _++_}
 use mathlib.Core.Option.{some}
 use lib.ListN.{length, take, drop}
 use lib.Seq.{take-at}
+use Rattle.chart.specs.declared.Version.the-variants.{Two}
 use Rattle.chart.specs.declared.Note.{Note}
 use Rattle.chart.specs.Bytes.{be, num}
 use Rattle.chart.specs.Chart.{Score, encode, header, drawsOf, scoreOf, decode}
@@ -18,13 +19,13 @@ use Rattle.job.specs.Read.{chartNotes}
 use Rattle.job.proofs.Read.{reads}
 
 -- the header does not depend on what follows it
-header-draws : (c d : ℕ) (ns : List Note) (rest : List ℕ) → drawsOf (encode c d ns ++ rest) ≡ drawsOf (encode c d ns)
+header-draws : (c d : ℕ) (ns : List Note) (rest : List ℕ) → drawsOf (encode Two c d ns ++ rest) ≡ drawsOf (encode Two c d ns)
 unfolding drawsOf encode header be num
 header-draws c d ns rest = refl
 
 module _ (bytes buffer : List ℕ) (a n g : ℕ) (small : a < 2 ^ 32) (e : job bytes buffer a .answer ≡ accepted n g) where
   abbrev chart : List ℕ
-  chart = encode (columns bytes) (draws bytes buffer a) (chartNotes bytes buffer a)
+  chart = encode Two (columns bytes) (draws bytes buffer a) (chartNotes bytes buffer a)
 
   long : n ≡ length chart
   long = reads bytes buffer .long a n g e
@@ -47,5 +48,5 @@ module _ (bytes buffer : List ℕ) (a n g : ℕ) (small : a < 2 ^ 32) (e : job b
   pub header-room : 8 ≤ length (job bytes buffer a .chart)
   header-room =
       let r = reads bytes buffer .room a n g e in
-      let l = length-encode (columns bytes) (draws bytes buffer a) (chartNotes bytes buffer a) in
+      let l = length-encode Two (columns bytes) (draws bytes buffer a) (chartNotes bytes buffer a) in
       omega (arith, r .0, r .1, long, l)

@@ -8,12 +8,11 @@ use native.Mathlib.Omega.{arith}
 use lib.Dec.{leb}
 use lib.ListN.{length, drop}
 use borrow.Author.Tests.{leb-true}
-use Rattle.chart.specs.declared.Note.{Note}
-use Rattle.chart.specs.Layout.{chartSize, noteSize}
-use Rattle.chart.specs.Tests.{both}
-use Rattle.chart.specs.Chart.{Score, reading, readingOf, decode, okChart, okHead, okRows, scoreOf, columnsOf, countOf, noteOf, noteIn}
-use Rattle.chart.specs.Laws.Notes.{length-notesOf}
-use Rattle.chart.specs.Laws.Reader.{read-score, head-size, note-read}
+use Rattle.chart.specs.declared.Version.{Version}
+use Rattle.chart.specs.declared.Version.the-variants.{One, Two}
+use Rattle.chart.specs.Layout.{chartSizeIn, noteSizeIn}
+use Rattle.chart.specs.Chart.{Score, reading, readingOf, decode, scoreOf, versionOf, noteOf, noteBy, blank}
+use Rattle.chart.specs.Laws.Reader.{read-score, read-size, note-read}
 use Rattle.sumopine.specs.Numbers.{readNumber, readNotes, isFound}
 use Rattle.sumopine.specs.Notes.{Indices}
 
@@ -24,29 +23,31 @@ taken none e = absurd (omega arith)
 taken (some c) e = (c, (refl, refl))
 
 -- a note is found only where the bytes go on to its end
-reaches : (s : List ℕ) (i : ℕ) → isFound (noteIn s i) ≡ 1 → chartSize i + noteSize ≤ length s
-unfolding noteIn
-reaches s i = go (leb (chartSize i + noteSize) (length s)) refl
+reaches : (v : Version) (s : List ℕ) (i : ℕ) → isFound (noteBy v s i) ≡ 1 → chartSizeIn v i + noteSizeIn v ≤ length s
+unfolding noteBy
+reaches v s i = go (leb (chartSizeIn v i + noteSizeIn v) (length s)) refl
   where
-    go : (b : Bool) → leb (chartSize i + noteSize) (length s) ≡ b → isFound (cond b (some (noteOf (drop (chartSize i) s))) none) ≡ 1 → chartSize i + noteSize ≤ length s
-    go true e h = leb-true (chartSize i + noteSize) (length s) e
+    go : (b : Bool) → leb (chartSizeIn v i + noteSizeIn v) (length s) ≡ b → isFound (cond b (some (noteOf v (drop (chartSizeIn v i) s))) none) ≡ 1 → chartSizeIn v i + noteSizeIn v ≤ length s
+    go true e h = leb-true (chartSizeIn v i + noteSizeIn v) (length s) e
     go false e h = absurd (omega arith)
 
--- the bytes are those of the notes
-size : (s : List ℕ) (c : Score) → decode s ≡ some c → length s ≡ chartSize (length (c .notes))
-unfolding okChart scoreOf
-size s c e =
-    let k = read-score s c e in
-    let count : length (c .notes) ≡ countOf s = ap (λ (t : Score). length (t .notes)) (sym (k .1)) ∙ length-notesOf (countOf s) (drop 8 s) in
-    head-size s (both (okHead s) (okRows (columnsOf s) 0 (countOf s) (drop 8 s)) (k .0) .0) ∙ ap (λ (n : ℕ). chartSize n) (sym count)
+-- the version is the header's
+version-is : (s : List ℕ) (c : Score) → decode s ≡ some c → c .version ≡ versionOf s
+unfolding scoreOf
+version-is s c e = ap (λ (t : Score). t .version) (sym (read-score s c e .1))
 
-blank : Note
-blank = record { column = 0; hold = false; start = 0; duration = 0 }
+below-count : (v : Version) (i n m : ℕ) → chartSizeIn v i + noteSizeIn v ≤ m → m ≡ chartSizeIn v n → i < n
+below-count One i n m h e = omega arith
+below-count Two i n m h e = omega arith
 
 pub indices : (chart : List ℕ) → Indices chart
 unfolding reading
 indices chart =
     record {
       below = λ e i h. let t = taken (decode chart) e in ap isFound (note-read chart (t .0) (t .1 .0) i blank (omega (arith, t .1 .1)));
-      only = λ e i h. let t = taken (decode chart) e in omega (arith, t .1 .1, size chart (t .0) (t .1 .0), reaches chart i h);
+      only = λ e i h.
+          let t = taken (decode chart) e in
+          let v = versionOf chart in
+          let size : length chart ≡ chartSizeIn v (length (t .0 .notes)) = read-size chart (t .0) (t .1 .0) ∙ ap (λ (w : Version). chartSizeIn w (length (t .0 .notes))) (version-is chart (t .0) (t .1 .0)) in
+          omega (arith, t .1 .1, below-count v i (length (t .0 .notes)) (length chart) (reaches v chart i h) size);
     }

@@ -2,6 +2,9 @@
 use mathlib.Core.Bool.{cond}
 use mathlib.Core.Option.{Option, none, some}
 use Prim.Native.Nat.{ℕ}
+use Rattle.chart.specs.Layout.{versionNumber}
+use Rattle.chart.specs.declared.Origin.{Origin}
+use Rattle.chart.specs.declared.Origin.the-variants.{Untold, Object}
 use Rattle.chart.specs.declared.Note.{Note}
 use Rattle.chart.specs.Chart.{Reading}
 use Rattle.chart.specs.Chart as Chart
@@ -26,25 +29,29 @@ abbrev pub longestOf : Answer → ℕ
 longestOf (accepted length longest) = longest
 longestOf (refusal n i d) = 0
 
--- ---- a chart that is read: the refusal's number, 0 for none; the header's numbers, 0 after a refusal
+-- ---- a chart that is read: the refusal's number, 0 for none; the version and the header's numbers, 0 after a refusal
 
 abbrev pub readNumber : Reading → ℕ
 readNumber (Chart.refused n) = n
-readNumber (Chart.accepted c n d) = 0
+readNumber (Chart.accepted v c n d) = 0
+
+abbrev pub readVersion : Reading → ℕ
+readVersion (Chart.refused n) = 0
+readVersion (Chart.accepted v c n d) = versionNumber v
 
 abbrev pub readColumns : Reading → ℕ
 readColumns (Chart.refused n) = 0
-readColumns (Chart.accepted c n d) = c
+readColumns (Chart.accepted v c n d) = c
 
 abbrev pub readNotes : Reading → ℕ
 readNotes (Chart.refused n) = 0
-readNotes (Chart.accepted c n d) = n
+readNotes (Chart.accepted v c n d) = n
 
 abbrev pub readDraws : Reading → ℕ
 readDraws (Chart.refused n) = 0
-readDraws (Chart.accepted c n d) = d
+readDraws (Chart.accepted v c n d) = d
 
--- ---- a note: 1 and its fields, or 0 and zeros; a hold is 1, a circle 0
+-- ---- a note: 1 and its fields, or 0 and zeros; a hold is 1, a circle 0; whether it tells its object, and the object's index
 
 abbrev pub isFound : Option Note → ℕ
 isFound none = 0
@@ -65,3 +72,16 @@ startIn (some n) = n .start
 abbrev pub durationIn : Option Note → ℕ
 durationIn none = 0
 durationIn (some n) = n .duration
+
+-- 1 where the object is told
+abbrev pub told : Origin → ℕ
+told Untold = 0
+told (Object i) = 1
+
+abbrev pub hasObjectIn : Option Note → ℕ
+hasObjectIn none = 0
+hasObjectIn (some n) = told (n .origin)
+
+abbrev pub objectIn : Option Note → ℕ
+objectIn none = 0
+objectIn (some n) = Chart.index (n .origin)

@@ -5,7 +5,7 @@ use native.Mathlib.Nat.{add-zero, sub-zero}
 use native.Mathlib.Numerals.{add-one}
 use native.Mathlib.Omega.{arith}
 use mathlib.Core.Bool.{true, false}
-use mathlib.Core.List.{List, [], _∷_, _++_, map, map-append, append-nil, append-assoc}
+use mathlib.Core.List.{List, [], _∷_, _++_, map, append-nil, append-assoc}
 use lib.Dec.{ltb}
 use lib.Pow.{pow-pos}
 use lib.ListN.{length, take, drop, length-append, length-map, take-append-drop}
@@ -28,12 +28,13 @@ use Rattle.mania.specs.declared.Note.{Note}
 use Rattle.mania.specs.declared.Facts.{Facts}
 use Rattle.mania.specs.LimitedQueue as Queue
 use Rattle.mania.specs.Object.{object}
-use Rattle.mania.specs.Chart.{body, patternOf, inWalkOrder}
+use Rattle.chart.specs.declared.Version.the-variants.{Two}
+use Rattle.mania.specs.Chart.{body, patternOf, patternsFrom, inWalkOrder}
 use Rattle.mania.specs.Convert.{factsAt, walkAfter, afterObject, beginning}
 use Rattle.mania.specs.Convert as Convert
 use Rattle.mania.specs.Walked.{Stop, stop, onWalk}
 use Rattle.mania.specs.Range.{InRange}
-use Rattle.mania.specs.Laws.Walks.{before, walk-none, walk-refused, walk-full, walk-made}
+use Rattle.mania.specs.Laws.Walks.{before, walk-none, walk-refused, walk-full, walk-made, length-patterns, patterns-more}
 use Rattle.density.specs.Queued.{Held}
 use Rattle.walk.specs.declared.Song.{Song}
 use Rattle.walk.specs.declared.InForce.{InForce}
@@ -48,16 +49,25 @@ unfolding inWalkOrder
 order-more [] ns = append-nil ns
 order-more (ms ∷ nss) ns = ap (λ (x : List Note). ms ++ x) (order-more nss ns) ∙ sym (append-assoc ms (inWalkOrder nss) ns)
 
-length-bytes : (ns : List Note) → length (body ns) ≡ noteSize * length ns
-unfolding body
-length-bytes ns = length-body (map patternOf ns) ∙ ap (λ (n : ℕ). noteSize * n) (length-map ns patternOf)
+-- the bytes of the notes of all objects so far
+abbrev pub allBytes : List (List Note) → List ℕ
+allBytes nss = Bytes.body Two (patternsFrom 0 nss)
 
-bytes-append : (ms ns : List Note) → body (ms ++ ns) ≡ body ms ++ body ns
-unfolding body
-bytes-append ms ns = ap Bytes.body (map-append patternOf ms ns) ∙ body-append (map patternOf ms) (map patternOf ns)
+length-all : (nss : List (List Note)) → length (allBytes nss) ≡ noteSize * length (inWalkOrder nss)
+length-all nss = length-body Two (patternsFrom 0 nss) ∙ ap (λ (n : ℕ). noteSize * n) (length-patterns 0 nss)
 
-none-written : (s : List ℕ) (i : ℕ) → s ≡ splice s i (body [])
-unfolding splice body Bytes.body
+length-bytes : (i : ℕ) (ns : List Note) → length (body i ns) ≡ noteSize * length ns
+unfolding body
+length-bytes i ns = length-body Two (map (patternOf i) ns) ∙ ap (λ (n : ℕ). noteSize * n) (length-map ns (patternOf i))
+
+bytes-more : (i : ℕ) (nss : List (List Note)) (ns : List Note) → length nss ≡ i → allBytes (nss ++ ns ∷ []) ≡ allBytes nss ++ body i ns
+unfolding body
+bytes-more i nss ns e =
+    let at : 0 + length nss ≡ i = omega (arith, e) in
+    ap (Bytes.body Two) (patterns-more 0 nss ns) ∙ rw at (body-append Two (patternsFrom 0 nss) (map (patternOf i) ns))
+
+none-written : (s : List ℕ) (i : ℕ) → s ≡ splice s i (allBytes [])
+unfolding splice patternsFrom Bytes.body
 none-written s i = sym (ap (λ (k : ℕ). take i s ++ drop k s) (add-zero i) ∙ take-append-drop i s)
 
 -- ---- the loop's head
@@ -68,7 +78,8 @@ pub record At (points part entry chart : List ℕ) (g : Song) (start count : ℕ
   pub passed : i ≤ count
   pub says : before nss (onWalk (Convert.walk (givenFacts points g) (g .columns) (length entry) i (walkOf w) (objects part here (count - i))) rest)
       ≡ rule points part g (length entry) start count d
-  pub written : chart ≡ splice entry 8 (body (inWalkOrder nss))
+  pub lists : length nss ≡ i
+  pub written : chart ≡ splice entry 8 (allBytes nss)
   pub number : w .notes ≡ length (inWalkOrder nss)
   pub few : w .notes ≤ mostNotes * i
   pub room : chartSize (w .notes) ≤ length entry
@@ -94,6 +105,7 @@ module _ (points part entry : List ℕ) (g : Song) (start count : ℕ) (d : Draw
             before-none _
             ∙ ap (λ (x : Convert.Walk). onWalk (Convert.walk (givenFacts points g) (g .columns) (length entry) 0 x (objects part start (count - 0))) d) e
             ∙ ap (λ (k : ℕ). rule points part g (length entry) start k d) (sub-zero count);
+        lists = refl;
         written = none-written entry 8;
         number = zero-notes;
         few = omega arith;
@@ -141,7 +153,7 @@ module _ (points part entry : List ℕ) (g : Song) (start count : ℕ) (d : Draw
           ∙ walk-full (givenFacts points g) (g .columns) (length entry) i (walkOf w) o os rest made e (ruled ∙ h) (subst (λ (f : ℕ). ltb f (chartSize (w .notes + length (made .notes))) ≡ true) z t) (a .nss)
           ∙ ap (λ (x : ℕ). refused (stop i x) e) (sym k)
 
-      pub at-next : (exit : List ℕ) (x : Walk) (next : ℕ) (e : Draws) → length chart ≡ length entry → Next chart exit g c w o rest x e
+      pub at-next : (exit : List ℕ) (x : Walk) (next : ℕ) (e : Draws) → length chart ≡ length entry → Next chart exit i g c w o rest x e
           → next ≡ objectEnd part here → next ≤ here + longest → At points part entry exit g start count d x next e (i + 1)
       unfolding walkOf walkAfter afterObject
       at-next exit x next e z k at far =
@@ -160,13 +172,14 @@ module _ (points part entry : List ℕ) (g : Song) (start count : ℕ) (d : Draw
                 ∙ ap (λ (y : Convert.Walk). before (a .nss ++ ns ∷ []) (onWalk (Convert.walk (givenFacts points g) (g .columns) (length entry) (suc i) y os) e)) (k .after ∙ ap (λ (f : Facts). afterObject f o (densityAt w o) (k .made) (walkOf w)) F)
                 ∙ sym (walk-made (givenFacts points g) (g .columns) (length entry) i (walkOf w) o os rest (k .made) e (ruled ∙ k .says) room (a .nss))
                 ∙ from-here;
+            lists = length-append (a .nss) (ns ∷ []) ∙ omega (arith, a .lists);
             written =
                 k .written
-                ∙ ap (λ (s : List ℕ). splice s (chartSize (w .notes)) (body ns)) (a .written)
-                ∙ splice-next entry 8 (body (inWalkOrder (a .nss))) (chartSize (w .notes)) (body ns)
-                (ap (λ (n : ℕ). 8 + n) (ap (λ (n : ℕ). noteSize * n) (a .number) ∙ sym (length-bytes (inWalkOrder (a .nss)))))
-                (omega (arith, length-bytes ns))
-                ∙ ap (splice entry 8) (sym (ap body (order-more (a .nss) ns) ∙ bytes-append (inWalkOrder (a .nss)) ns));
+                ∙ ap (λ (s : List ℕ). splice s (chartSize (w .notes)) (body i ns)) (a .written)
+                ∙ splice-next entry 8 (allBytes (a .nss)) (chartSize (w .notes)) (body i ns)
+                (ap (λ (n : ℕ). 8 + n) (ap (λ (n : ℕ). noteSize * n) (a .number) ∙ sym (length-all (a .nss))))
+                (omega (arith, length-bytes i ns))
+                ∙ ap (splice entry 8) (sym (bytes-more i (a .nss) ns (a .lists)));
             number = omega (arith, notes, sum, a .number);
             few = omega (arith, notes, k .few, a .few);
             room = omega (arith, notes, fits);

@@ -33,7 +33,7 @@ facts-are : (g : Song) (c : InForce) (w : Walk) (o : Object) (m : Met) → Meets
 facts-are g c w o m h = h .facts ∙ ap (factsBy g c) (h .density)
 
 -- what was kept is a step of the walk
-module _ (entry exit words : List ℕ) (g : Song) (c : InForce) (w : Walk) (o : Object) (d e : Draws) (m : Met) (p : Pattern) (stair : Stair)
+module _ (entry exit words : List ℕ) (i : ℕ) (g : Song) (c : InForce) (w : Walk) (o : Object) (d e : Draws) (m : Met) (p : Pattern) (stair : Stair)
     (h : Meets g c (w .density) o m) (size : mostNotes ≤ length words) (deck : (p .count ≤ mostNotes) × (p .mask < 2 ^ g .columns) × (p .last < g .columns))
     (says : found (madeBy (noteAt o) words p stair) e ≡ on (object (m .facts) (w .prev) (g .columns) o) d) where
   abbrev made : Made
@@ -45,7 +45,7 @@ module _ (entry exit words : List ℕ) (g : Song) (c : InForce) (w : Walk) (o : 
   ruled : objectRule g c w o d ≡ found made e
   ruled = ap (λ (f : Facts). on (object f (w .prev) (g .columns) o) d) (sym (facts-are g c w o m h)) ∙ sym says
 
-  next-of : (x : Walk) → KeepsBy entry exit words o m p stair w true x → Next entry exit g c w o d x e
+  next-of : (x : Walk) → KeepsBy entry exit words i o m p stair w true x → Next entry exit i g c w o d x e
   unfolding walkOf walkAfter afterObject
   next-of x k =
       let left : walkOf x ≡ walkAfter (m .facts) o (queued (m .density)) (p .mask) (p .last) stair (p .count) (walkOf w) = k .3 in
@@ -67,12 +67,12 @@ module _ (entry exit words : List ℕ) (g : Song) (c : InForce) (w : Walk) (o : 
             };
       }
 
-  by-refused : (b : Bool) (r : Step) → KeepsBy entry exit words o m p stair w (not b) (r .walk) → r .number ≡ 11 → r .draws ≡ e → StepsBy entry exit g c w o d b r
+  by-refused : (b : Bool) (r : Step) → KeepsBy entry exit words i o m p stair w (not b) (r .walk) → r .number ≡ 11 → r .draws ≡ e → StepsBy entry exit i g c w o d b r
   by-refused true r k n f =
       subst (λ (q : Draws). Stops entry g c w o d (r .number) q) (sym f) (full made ruled (subst (λ (n : ℕ). tooLong entry w n ≡ true) (sym counted) k) n)
-  by-refused false r k n f = subst (λ (q : Draws). Next entry exit g c w o d (r .walk) q) (sym f) (next-of (r .walk) k)
+  by-refused false r k n f = subst (λ (q : Draws). Next entry exit i g c w o d (r .walk) q) (sym f) (next-of (r .walk) k)
 
-  pub finished : (r : Step) → Finishes entry exit words o m p stair w e r → Steps entry exit g c w o d r
+  pub finished : (r : Step) → Finishes entry exit words i o m p stair w e r → Steps entry exit i g c w o d r
   finished r k = by-refused (r .refused) r (k .0) (k .1) (k .2)
 
 -- a refusal of the object's rule is one too
@@ -81,7 +81,7 @@ pub refused-step : (entry : List ℕ) (g : Song) (c : InForce) (w : Walk) (o : O
 refused-step entry g c w o d e m n h says = refuses (ap (λ (f : Facts). on (object f (w .prev) (g .columns) o) d) (sym (facts-are g c w o m h)) ∙ sym says)
 
 -- a double negation
-pub twice : (entry exit words : List ℕ) (o : Object) (m : Met) (p : Pattern) (stair : Stair) (w x : Walk) (b : Bool) → KeepsBy entry exit words o m p stair w b x
-    → KeepsBy entry exit words o m p stair w (not (not b)) x
-twice entry exit words o m p stair w x true k = k
-twice entry exit words o m p stair w x false k = k
+pub twice : (entry exit words : List ℕ) (i : ℕ) (o : Object) (m : Met) (p : Pattern) (stair : Stair) (w x : Walk) (b : Bool) → KeepsBy entry exit words i o m p stair w b x
+    → KeepsBy entry exit words i o m p stair w (not (not b)) x
+twice entry exit words i o m p stair w x true k = k
+twice entry exit words i o m p stair w x false k = k

@@ -20,10 +20,12 @@ use Rattle.record.specs.declared.section.Section.the-variants.{TimingPoints, Di
 use Rattle.points.specs.Lasting.{BeatLasts, VelocityLasts, KiaiLasts}
 use Rattle.chart.specs.Layout.{chartSize}
 use Rattle.chart.specs.Bytes.{splice}
+use Rattle.chart.specs.declared.Version.the-variants.{Two}
+use Rattle.chart.specs.Chart as Bytes
 use Rattle.mania.specs.declared.Facts.{Facts}
 use Rattle.mania.specs.declared.Note.{Note}
 use Rattle.mania.specs.declared.Stair.{Stair}
-use Rattle.mania.specs.Chart.{body, inWalkOrder}
+use Rattle.mania.specs.Chart.{body, patternsFrom, inWalkOrder}
 use Rattle.mania.specs.LimitedQueue as Queue
 use Rattle.mania.specs.Made.{Made}
 use Rattle.mania.specs.Object.{object}
@@ -100,20 +102,20 @@ pub record Meets (g : Song) (c : InForce) (before : Density) (o : Object) (m : M
 abbrev pub tooLong : List ℕ → Walk → ℕ → Bool
 tooLong entry w n = ltb (length entry) (chartSize (w .notes + n))
 
--- the notes are written after those before, and the walk goes on, unless the chart is too short for them
-abbrev pub KeepsBy : (entry exit words : List ℕ) → Object → Met → Pattern → Stair → Walk → Bool → Walk → Type 0
-KeepsBy entry exit words o m p stair w true x =
-    (tooLong entry w (p .count) ≡ false) × (exit ≡ splice entry (chartSize (w .notes)) (body (map (noteAt o) (take (p .count) words))))
+-- the notes of the object at index i are written after those before, and the walk goes on, unless the chart is too short for them
+abbrev pub KeepsBy : (entry exit words : List ℕ) → ℕ → Object → Met → Pattern → Stair → Walk → Bool → Walk → Type 0
+KeepsBy entry exit words i o m p stair w true x =
+    (tooLong entry w (p .count) ≡ false) × (exit ≡ splice entry (chartSize (w .notes)) (body i (map (noteAt o) (take (p .count) words))))
     × Held (x .density) × (walkOf x ≡ walkAfter (m .facts) o (queued (m .density)) (p .mask) (p .last) stair (p .count) (walkOf w))
-KeepsBy entry exit words o m p stair w false x = tooLong entry w (p .count) ≡ true
+KeepsBy entry exit words i o m p stair w false x = tooLong entry w (p .count) ≡ true
 
-abbrev pub Keeps : (entry exit words : List ℕ) → Object → Met → Pattern → Stair → Walk → Kept → Type 0
-Keeps entry exit words o m p stair w r = KeepsBy entry exit words o m p stair w (r .fits) (r .walk)
+abbrev pub Keeps : (entry exit words : List ℕ) → ℕ → Object → Met → Pattern → Stair → Walk → Kept → Type 0
+Keeps entry exit words i o m p stair w r = KeepsBy entry exit words i o m p stair w (r .fits) (r .walk)
 
 -- what an object made is kept, or it is refused by 11
-abbrev pub Finishes : (entry exit words : List ℕ) → Object → Met → Pattern → Stair → Walk → Draws → Step → Type 0
-Finishes entry exit words o m p stair w d r =
-    KeepsBy entry exit words o m p stair w (not (r .refused)) (r .walk) × (r .number ≡ Numbers.chartTooShort) × (r .draws ≡ d)
+abbrev pub Finishes : (entry exit words : List ℕ) → ℕ → Object → Met → Pattern → Stair → Walk → Draws → Step → Type 0
+Finishes entry exit words i o m p stair w d r =
+    KeepsBy entry exit words i o m p stair w (not (r .refused)) (r .walk) × (r .number ≡ Numbers.chartTooShort) × (r .draws ≡ d)
 
 -- what the walk keeps is for the columns: a previous pattern on the deck
 pub record Sound (columns : ℕ) (w : Walk) : Type 0 where
@@ -133,11 +135,11 @@ abbrev pub objectRule : Song → InForce → Walk → Object → Draws → Answe
 objectRule g c w o d = on (object (factsIn g c w o) (w .prev) (g .columns) o) d
 
 -- the object made its notes, and they are written
-pub record Next (entry exit : List ℕ) (g : Song) (c : InForce) (w : Walk) (o : Object) (d : Draws) (x : Walk) (e : Draws) : Type 0 where
+pub record Next (entry exit : List ℕ) (i : ℕ) (g : Song) (c : InForce) (w : Walk) (o : Object) (d : Draws) (x : Walk) (e : Draws) : Type 0 where
   pub made : Made
   pub says : objectRule g c w o d ≡ found made e
   pub room : tooLong entry w (length (made .notes)) ≡ false
-  pub written : exit ≡ splice entry (chartSize (w .notes)) (body (made .notes))
+  pub written : exit ≡ splice entry (chartSize (w .notes)) (body i (made .notes))
   pub after : walkOf x ≡ afterObject (factsIn g c w o) o (densityAt w o) made (walkOf w)
   pub few : length (made .notes) ≤ mostNotes
   pub sound : Sound (g .columns) x
@@ -148,22 +150,22 @@ pub data Stops (entry : List ℕ) (g : Song) (c : InForce) (w : Walk) (o : Objec
   full : (made : Made) → objectRule g c w o d ≡ found made e → tooLong entry w (length (made .notes)) ≡ true → n ≡ Numbers.chartTooShort → Stops entry g c w o d n e
 
 -- one object of the walk
-abbrev pub StepsBy : (entry exit : List ℕ) → Song → InForce → Walk → Object → Draws → Bool → Step → Type 0
-StepsBy entry exit g c w o d true r = Stops entry g c w o d (r .number) (r .draws)
-StepsBy entry exit g c w o d false r = Next entry exit g c w o d (r .walk) (r .draws)
+abbrev pub StepsBy : (entry exit : List ℕ) → ℕ → Song → InForce → Walk → Object → Draws → Bool → Step → Type 0
+StepsBy entry exit i g c w o d true r = Stops entry g c w o d (r .number) (r .draws)
+StepsBy entry exit i g c w o d false r = Next entry exit i g c w o d (r .walk) (r .draws)
 
-abbrev pub Steps : (entry exit : List ℕ) → Song → InForce → Walk → Object → Draws → Step → Type 0
-Steps entry exit g c w o d r = StepsBy entry exit g c w o d (r .refused) r
+abbrev pub Steps : (entry exit : List ℕ) → ℕ → Song → InForce → Walk → Object → Draws → Step → Type 0
+Steps entry exit i g c w o d r = StepsBy entry exit i g c w o d (r .refused) r
 
 -- the rule of a walk over the objects of the part
 abbrev pub rule : (points part : List ℕ) → Song → ℕ → ℕ → ℕ → Draws → Answer Stop (List (List Note))
 rule points part g room at count d = onWalk (walk (givenFacts points g) (g .columns) room 0 beginning (objects part at count)) d
 
--- all notes of a walk stand in walk order from byte 8 on; `walked` is what its rule comes to
+-- all notes of a walk stand in walk order from byte 8 on, each with the index of its object; `walked` is what its rule comes to
 pub record Written (walked : Answer Stop (List (List Note))) (entry exit : List ℕ) (notes : ℕ) (e : Draws) : Type 0 where
   pub nss : List (List Note)
   pub says : walked ≡ found nss e
-  pub written : exit ≡ splice entry 8 (body (inWalkOrder nss))
+  pub written : exit ≡ splice entry 8 (Bytes.body Two (patternsFrom 0 nss))
   pub number : notes ≡ length (inWalkOrder nss)
   pub few : notes ≤ mostNotes * mostEntries
   pub room : chartSize notes ≤ length entry

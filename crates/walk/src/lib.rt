@@ -3,7 +3,7 @@ ghost use mathlib.Core.Path.{_≡_};
 ghost use Prim.Native.Nat.{ℕ, _+_, _^_, _≤_, _<_};
 ghost use mathlib.Core.List.{List};
 ghost use lib.ListN.{length};
-ghost use Rattle.chart.specs.Layout.{mostInChart};
+ghost use Rattle.chart.specs.Layout.{indices, mostInChart};
 ghost use Rattle.model.specs.Limits.{mostEntries, mostNotes};
 ghost use Rattle.rules.specs.Each.{Each};
 ghost use Rattle.record.specs.Object.{objects};
@@ -276,14 +276,15 @@ pub struct Kept {
 fn keep(
     chart: &mut [u8],
     words: &[u64],
+    index: u32,
     o: Object,
     m: Met,
     p: Pattern,
     stair: Stair,
     w: Walk,
 ) -> Kept
-    requires { ⌜ Held (m .density) × (p .count ≤ mostNotes) × (mostNotes ≤ length (now words)) × (w .notes ≤ mostInChart) ⌝ }
-    ensures { λ r. ⌜ Keeps (now (chart .entry)) (now (chart .exit)) (now (words .entry)) o m p stair w r ⌝ }
+    requires { ⌜ (index < indices) × Held (m .density) × (p .count ≤ mostNotes) × (mostNotes ≤ length (now words)) × (w .notes ≤ mostInChart) ⌝ }
+    ensures { λ r. ⌜ Keeps (now (chart .entry)) (now (chart .exit)) (now (words .entry)) index o m p stair w r ⌝ }
 {
     let count = p.count;
     let before = w.notes as usize;
@@ -293,7 +294,14 @@ fn keep(
             walk: w,
         };
     }
-    put_notes(o, words, count, chart, HEADER_SIZE + NOTE_SIZE * before);
+    put_notes(
+        index as u16,
+        o,
+        words,
+        count,
+        chart,
+        HEADER_SIZE + NOTE_SIZE * before,
+    );
     let met = m.density;
     let f = m.facts;
     let walk = after_object(f, o, met, p.mask, p.last, stair, count as u32, w);
@@ -312,6 +320,7 @@ pub struct Step {
 fn finish(
     chart: &mut [u8],
     words: &[u64],
+    index: u32,
     o: Object,
     m: Met,
     p: Pattern,
@@ -319,10 +328,10 @@ fn finish(
     w: Walk,
     d: Draws,
 ) -> Step
-    requires { ⌜ Held (m .density) × (p .count ≤ mostNotes) × (mostNotes ≤ length (now words)) × (w .notes ≤ mostInChart) ⌝ }
-    ensures { λ r. ⌜ Finishes (now (chart .entry)) (now (chart .exit)) (now (words .entry)) o m p stair w d r ⌝ }
+    requires { ⌜ (index < indices) × Held (m .density) × (p .count ≤ mostNotes) × (mostNotes ≤ length (now words)) × (w .notes ≤ mostInChart) ⌝ }
+    ensures { λ r. ⌜ Finishes (now (chart .entry)) (now (chart .exit)) (now (words .entry)) index o m p stair w d r ⌝ }
 {
-    let kept = keep(chart, words, o, m, p, stair, w);
+    let kept = keep(chart, words, index, o, m, p, stair, w);
     let walk = kept.walk;
     let refused = !kept.fits;
     Step {
@@ -341,18 +350,19 @@ fn convert_object(
     g: Song,
     c: InForce,
     w: Walk,
+    index: u32,
     o: Object,
     d: Draws,
 ) -> Step
-    requires { ⌜ (1 ≤ g .columns) × (g .columns ≤ 9) × Sound (g .columns) w × InRange o × (w .notes ≤ mostInChart) × (mostNotes ≤ length (now words)) × (mostNotes ≤ length (now spare)) ⌝ }
-    ensures { λ r. ⌜ Steps (now (chart .entry)) (now (chart .exit)) g c w o d r ⌝ }
+    requires { ⌜ (index < indices) × (1 ≤ g .columns) × (g .columns ≤ 9) × Sound (g .columns) w × InRange o × (w .notes ≤ mostInChart) × (mostNotes ≤ length (now words)) × (mostNotes ≤ length (now spare)) ⌝ }
+    ensures { λ r. ⌜ Steps (now (chart .entry)) (now (chart .exit)) index g c w o d r ⌝ }
 {
     let before = w.density;
     let m = meet(g, c, before, o);
     let f = m.facts;
     let v = w.prev;
     match object::generate(f, v, g.columns, o, words, spare, d) {
-        ObjectEnd::Made(p, stair, e) => finish(chart, words, o, m, p, stair, w, e),
+        ObjectEnd::Made(p, stair, e) => finish(chart, words, index, o, m, p, stair, w, e),
         ObjectEnd::Refused(n, e) => {
             Step {
                 refused: true,
@@ -412,7 +422,7 @@ pub fn walk_objects(
         let read = read_object(part, here);
         let o = read.object;
         c = in_force_at(points, g, c, o.start);
-        let s = convert_object(chart, words, spare, g, c, w, o, rest);
+        let s = convert_object(chart, words, spare, g, c, w, i, o, rest);
         let e = s.draws;
         if s.refused {
             return WalkEnd::Refused(s.number, i, e);

@@ -3,7 +3,7 @@
 use std::time::Duration;
 
 use compare::lent_bytes;
-use entry::JobEnd;
+use entry::{JobEnd, chart_bytes};
 use jobs::Song;
 use library::Numbers;
 use reference::Prepared;
@@ -47,7 +47,7 @@ pub struct Accepted {
 
 /// The chart's length in bytes.
 pub fn length(notes: u32) -> usize {
-    8 + 17 * notes as usize
+    chart_bytes(notes as usize)
 }
 
 /// A job with exactly the room and the draws that its song needs, compared with the Rust.

@@ -1,6 +1,6 @@
 //! The lookups of notes around a moment, in charts of two sizes, beside the reading of the chart, which each of them begins with.
 
-use entry::Note;
+use entry::{Chart, Note};
 use jobs::Rng;
 use library::lookups::{holds_at, list_numbers, nearest_note, nearest_numbers, notes_between};
 
@@ -16,7 +16,8 @@ fn notes(seed: u64, count: usize) -> Vec<Note> {
         let hold = rng.percent(30);
         let start = 10.0 * index as f64 + rng.unit();
         let duration = if hold { rng.uniform(50.0, 500.0) } else { 0.0 };
-        Note { column: rng.below(COLUMNS.into()) as u8, hold, start: start.to_bits(), duration: duration.to_bits() }
+        let object = Some((index % 4095) as u16);
+        Note { column: rng.below(COLUMNS.into()) as u8, hold, object, start: start.to_bits(), duration: duration.to_bits() }
     };
 
     (0..count).map(note).collect()
@@ -39,7 +40,7 @@ pub fn table(seed: u64, plan: Plan) {
     );
     for size in [16_000, 200_000] {
         let notes = notes(seed, size);
-        let chart = second::write_chart(COLUMNS, 0, &notes);
+        let chart = second::write_chart(&Chart { version: 2, columns: COLUMNS, draws: 0, notes });
         let mut list = vec![u32::MAX; size];
         for (name, percent) in [("near the start", 1), ("in the middle", 50), ("near the end", 99)] {
             let time = 10.0 * (size * percent / 100) as f64 + 3.25;

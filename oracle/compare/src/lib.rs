@@ -1,10 +1,10 @@
 //! Inputs for a comparison: buffers that are not zero, so that bytes which should keep their values show. Recorded answers.
 
-use entry::JobEnd;
+use entry::{JobEnd, chart_bytes};
 use jobs::{Need, Rng};
 
 /// A chart of the most notes that a random job is given room for.
-pub const LARGEST: usize = 8 + 17 * 100_000;
+pub const LARGEST: usize = chart_bytes(100_000);
 
 /// A job: its record, chart buffer and allowance.
 pub struct Job {
@@ -45,13 +45,20 @@ pub fn entry(input: &[u8], numbers: &[u32], due: &[u8]) -> Vec<u8> {
 
 #[cfg(test)]
 mod tests {
-    use entry::{ListEnd, NearestEnd, Note};
+    use entry::{Chart, ListEnd, NearestEnd, Note};
 
     /// A hold at 0.1 for 0.2 in column 0, circles at 1 and 3 there, and one at 3 in column 1.
     fn chart() -> Vec<u8> {
-        let note = |column, start: f64, duration: f64| Note { column, hold: duration > 0.0, start: start.to_bits(), duration: duration.to_bits() };
+        let note = |column, start: f64, duration: f64| Note {
+            column,
+            hold: duration > 0.0,
+            object: Some(7),
+            start: start.to_bits(),
+            duration: duration.to_bits(),
+        };
+        let notes = vec![note(0, 0.1, 0.2), note(0, 1.0, 0.0), note(0, 3.0, 0.0), note(1, 3.0, 0.0)];
 
-        second::write_chart(2, 0, &[note(0, 0.1, 0.2), note(0, 1.0, 0.0), note(0, 3.0, 0.0), note(1, 3.0, 0.0)])
+        second::write_chart(&Chart { version: 2, columns: 2, draws: 0, notes })
     }
 
     /// The exact end of the hold lies between 0.1 + 0.2 rounded down and up.

@@ -62,7 +62,7 @@ pub struct Single {
 /// How a single object ends.
 #[derive(Clone, Copy, Debug, PartialEq, Eq)]
 pub enum SingleEnd {
-    /// `notes` notes of 17 bytes stand at the buffer's start; later bytes keep their values.
+    /// `notes` notes of version 2, each with object 0, stand at the buffer's start; later bytes keep their values.
     Made { notes: u32, mask: u32, last: u32, reverse_stair: bool, state: State, draws: u32 },
     /// Nothing is written; the state is the one lent.
     Refused { number: u8, state: State },
@@ -124,11 +124,25 @@ impl AnnouncedSlider {
     }
 }
 
+/// Bytes of a chart's header.
+pub const HEADER_BYTES: usize = 8;
+/// Bytes of a note of version 2, in which charts are written.
+pub const NOTE_BYTES: usize = 19;
+/// Bytes of a note of version 1.
+pub const OLD_NOTE_BYTES: usize = 17;
+
+/// Bytes of a chart of version 2 with so many notes.
+pub const fn chart_bytes(notes: usize) -> usize {
+    HEADER_BYTES + NOTE_BYTES * notes
+}
+
 /// A note of a chart, floats as bit patterns. A circle's duration is 0.
 #[derive(Clone, Copy, Debug, PartialEq, Eq)]
 pub struct Note {
     pub column: u8,
     pub hold: bool,
+    /// The index of the object that made it, counted from 0. Notes of version 1 have none.
+    pub object: Option<u16>,
     pub start: u64,
     pub duration: u64,
 }
@@ -136,6 +150,8 @@ pub struct Note {
 /// What the chart reader finds; `None` stands for refusal 14.
 #[derive(Clone, Debug, PartialEq, Eq)]
 pub struct Chart {
+    /// 1 or 2.
+    pub version: u8,
     pub columns: u8,
     pub draws: u32,
     pub notes: Vec<Note>,

@@ -1,24 +1,32 @@
 //! Charts for the reader.
 
+use entry::{NOTE_BYTES, OLD_NOTE_BYTES};
+
 use crate::rng::Rng;
 
 const LAST_END: f64 = 33_554_431.0;
 
+#[derive(Clone, Copy)]
 struct Note {
     column: u8,
     hold: bool,
+    /// Written in version 2 only.
+    object: u16,
     start: f64,
     duration: f64,
 }
 
 struct Parts {
+    /// The header's.
     version: u8,
+    /// Whether the notes are those of version 1.
+    old_notes: bool,
     columns: u8,
     count: u32,
     draws: u32,
     notes: Vec<Note>,
     /// Bits set in a note's zero bits.
-    zero_bits: Option<(usize, u8)>,
+    zero_bits: Option<(usize, u32)>,
 }
 
 impl Parts {
@@ -32,7 +40,13 @@ impl Parts {
                 .zero_bits
                 .filter(|(at, _)| *at == index)
                 .map_or(0, |(_, bits)| bits);
-            bytes.push(note.column << 4 | u8::from(note.hold) << 3 | set);
+            let head = u32::from(note.column) << 4 | u32::from(note.hold) << 3;
+            if self.old_notes {
+                bytes.push((head | set) as u8);
+            } else {
+                let head = head << 16 | u32::from(note.object) << 7 | set;
+                bytes.extend(&head.to_be_bytes()[1..]);
+            }
             bytes.extend(note.start.to_bits().to_be_bytes());
             bytes.extend(note.duration.to_bits().to_be_bytes());
         }
@@ -41,7 +55,16 @@ impl Parts {
     }
 }
 
+/// An object's index. The reader takes any, in any order.
+pub fn index(rng: &mut Rng) -> u16 {
+    let most = rng.pick(&[1, 4, 300, 4096]);
+    let index = rng.below(most) as u16;
+
+    if rng.percent(50) { index } else { 4095 - index }
+}
+
 fn parts(rng: &mut Rng) -> Parts {
+    let old = rng.percent(50);
     let columns = rng.between(1, 9) as u8;
     let most = if rng.percent(20) { 60 } else { 6 };
     let count = rng.index(most);
@@ -65,6 +88,7 @@ fn parts(rng: &mut Rng) -> Parts {
             Note {
                 column: rng.below(u64::from(columns)) as u8,
                 hold,
+                object: index(rng),
                 start,
                 duration,
             }
@@ -73,7 +97,8 @@ fn parts(rng: &mut Rng) -> Parts {
     notes.sort_by(|a, b| a.start.total_cmp(&b.start).then(a.column.cmp(&b.column)));
 
     Parts {
-        version: 1,
+        version: if old { 1 } else { 2 },
+        old_notes: old,
         columns,
         count: count as u32,
         draws: rng.word() as u32,
@@ -82,9 +107,20 @@ fn parts(rng: &mut Rng) -> Parts {
     }
 }
 
-/// A chart that the reader takes.
+/// A chart that the reader takes, of either version.
 pub fn chart(rng: &mut Rng) -> Vec<u8> {
     parts(rng).bytes()
+}
+
+/// Notes of the other version than the header's. Half have as many bytes as the header says, since 17 notes of 19 bytes are as long as 19 of 17.
+fn other_notes(rng: &mut Rng, parts: &mut Parts) {
+    parts.version = if parts.old_notes { 2 } else { 1 };
+    if rng.percent(50) {
+        let (there, said) = if parts.old_notes { (NOTE_BYTES, OLD_NOTE_BYTES) } else { (OLD_NOTE_BYTES, NOTE_BYTES) };
+        let note = parts.notes[0];
+        parts.notes = vec![note; there];
+        parts.count = said as u32;
+    }
 }
 
 /// A chart with one fault; a few are still taken.
@@ -95,6 +131,7 @@ pub fn damaged_chart(rng: &mut Rng) -> Vec<u8> {
         parts.notes.push(Note {
             column: 0,
             hold: true,
+            object: 0,
             start: 5.0,
             duration: 5.0,
         });
@@ -104,8 +141,8 @@ pub fn damaged_chart(rng: &mut Rng) -> Vec<u8> {
     let index = rng.index(parts.notes.len());
     let last = parts.notes.len() - 1;
 
-    match rng.below(17) {
-        0 => parts.version = rng.pick(&[0, 2, 15]),
+    match rng.below(18) {
+        0 => parts.version = rng.pick(&[0, 3, 4, 15]),
         1 => parts.columns = rng.pick(&[0, 10, 15]),
         2 => parts.count = rng.pick(&[0, parts.count + 1, parts.count - 1, 0xff_ffff]),
         3 => {
@@ -115,11 +152,12 @@ pub fn damaged_chart(rng: &mut Rng) -> Vec<u8> {
         }
         4 => {
             let mut bytes = parts.bytes();
-            bytes.extend(std::iter::repeat_n(0, rng.pick(&[1, 16, 17])));
+            bytes.extend(std::iter::repeat_n(0, rng.pick(&[1, 16, 17, 18, 19])));
             return bytes;
         }
         5 => parts.notes[index].column = rng.pick(&[parts.columns, 15]),
-        6 => parts.zero_bits = Some((index, rng.pick(&[1, 2, 4, 7]))),
+        6 if parts.old_notes => parts.zero_bits = Some((index, rng.pick(&[1, 2, 4, 7]))),
+        6 => parts.zero_bits = Some((index, rng.pick(&[1, 2, 4, 8, 16, 32, 64, 127]))),
         7 => parts.notes[index].start = rng.pick(&[-0.0, f64::NAN, f64::INFINITY, -1.0, -5e-324]),
         8 => {
             parts.notes[index].duration = rng.pick(&[
@@ -151,6 +189,7 @@ pub fn damaged_chart(rng: &mut Rng) -> Vec<u8> {
             bytes[bit / 8] ^= 0x80 >> (bit % 8);
             return bytes;
         }
+        13 => other_notes(rng, &mut parts),
         // The last note at the bound of the sum, or beyond by less than a float shows.
         _ => {
             let (start, duration) = match rng.below(8) {
@@ -177,6 +216,7 @@ pub fn damaged_chart(rng: &mut Rng) -> Vec<u8> {
             *note = Note {
                 column: note.column,
                 hold: duration != 0.0,
+                object: note.object,
                 start,
                 duration,
             };

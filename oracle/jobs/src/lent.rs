@@ -1,5 +1,7 @@
 //! Allowances and buffer lengths for a job.
 
+use entry::chart_bytes;
+
 use crate::rng::Rng;
 
 /// The draws and bytes of a job's chart, where a run with plenty of both has shown them.
@@ -13,7 +15,7 @@ pub struct Need {
 pub fn lent(rng: &mut Rng, need: Option<Need>) -> (u32, usize) {
     let need = need.unwrap_or(Need {
         draws: rng.below(60) as u32,
-        length: 8 + 17 * rng.index(40),
+        length: chart_bytes(rng.index(40)),
     });
     let plenty = 1_000_000;
 
@@ -31,7 +33,7 @@ pub fn lent(rng: &mut Rng, need: Option<Need>) -> (u32, usize) {
         3 => need.length.saturating_sub(1),
         4 => need.length + 1 + rng.index(40),
         5 => rng.index(need.length + 1),
-        6 => rng.index(26),
+        6 => rng.index(chart_bytes(1) + 1),
         _ => need.length + 200,
     };
 

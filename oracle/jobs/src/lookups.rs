@@ -1,8 +1,11 @@
 //! Charts and times for the lookups of notes around a moment.
 
-use entry::Note;
+use entry::{Chart, Note};
 
-use crate::{charts::damaged_chart, rng::Rng};
+use crate::{
+    charts::{damaged_chart, index},
+    rng::Rng,
+};
 
 const LAST_END: f64 = 33_554_431.0;
 
@@ -57,7 +60,7 @@ fn duration(rng: &mut Rng, start: f64, common_end: f64) -> Option<f64> {
     (duration > 0.0).then_some(duration.min(most)).filter(|duration| *duration > 0.0)
 }
 
-fn notes(rng: &mut Rng, columns: u8) -> Vec<Note> {
+fn notes(rng: &mut Rng, version: u8, columns: u8) -> Vec<Note> {
     let most = match rng.below(1000) {
         0 => 3000,
         1..150 => 60,
@@ -77,7 +80,8 @@ fn notes(rng: &mut Rng, columns: u8) -> Vec<Note> {
     let note = |start: f64| {
         let column = rng.below(used) as u8;
         let lasts = if rng.percent(holds) { duration(rng, start, common_end) } else { None };
-        Note { column, hold: lasts.is_some(), start: start.to_bits(), duration: lasts.unwrap_or(0.0).to_bits() }
+        let object = (version == 2).then(|| index(rng));
+        Note { column, hold: lasts.is_some(), object, start: start.to_bits(), duration: lasts.unwrap_or(0.0).to_bits() }
     };
 
     let mut notes: Vec<Note> = starts.into_iter().map(note).collect();
@@ -87,7 +91,7 @@ fn notes(rng: &mut Rng, columns: u8) -> Vec<Note> {
     notes
 }
 
-/// A chart for lookups; one in thirty is damaged.
+/// A chart for lookups, of either version; one in thirty is damaged.
 pub fn noted_chart(rng: &mut Rng) -> Notes {
     if rng.below(30) == 0 {
         let bytes = damaged_chart(rng);
@@ -95,9 +99,10 @@ pub fn noted_chart(rng: &mut Rng) -> Notes {
         return Notes { bytes, columns: 9, notes: chart.map_or(Vec::new(), |chart| chart.notes) };
     }
     let columns = rng.between(1, 9) as u8;
-    let notes = notes(rng, columns);
+    let version = rng.between(1, 2) as u8;
+    let chart = Chart { version, columns, notes: notes(rng, version, columns), draws: rng.word() as u32 };
 
-    Notes { bytes: second::write_chart(columns, rng.word() as u32, &notes), columns, notes }
+    Notes { bytes: second::write_chart(&chart), columns, notes: chart.notes }
 }
 
 /// A time to look up: at, next to and between starts, ends and middles, before and far beyond the chart, or not finite.

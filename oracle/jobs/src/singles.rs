@@ -1,6 +1,6 @@
 //! Asks of the single-object entry.
 
-use entry::{Kind, Single, State};
+use entry::{Kind, NOTE_BYTES, Single, State};
 
 use crate::{
     records::{
@@ -266,11 +266,11 @@ pub fn single(rng: &mut Rng) -> (Single, usize) {
         };
     }
     let buffer = match rng.below(10) {
-        0 => rng.index(18),
-        1 => 17 * rng.index(6),
+        0 => rng.index(NOTE_BYTES + 1),
+        1 => NOTE_BYTES * rng.index(6),
         2 => rng.index(300),
         // Room for two notes at each of 301 nodes.
-        _ => 17 * 602 + rng.index(20),
+        _ => NOTE_BYTES * 602 + rng.index(20),
     };
 
     (single, buffer)

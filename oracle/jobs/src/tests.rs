@@ -1,4 +1,4 @@
-use entry::{JobEnd, SingleEnd, State};
+use entry::{JobEnd, SingleEnd, State, chart_bytes};
 
 use crate::{
     Name, Need, Rng, Song, announced_slider, announced_song, chart, damaged, damaged_chart,
@@ -147,7 +147,7 @@ fn what_is_needed_is_lent_often() {
     let mut rng = Rng::new(13);
     let need = Need {
         draws: 40,
-        length: 8 + 17 * 30,
+        length: chart_bytes(30),
     };
     let exact = (0..1000)
         .filter(|_| lent(&mut rng, Some(need)) == (need.draws, need.length))

@@ -19,7 +19,14 @@ mod c {
             draws: *mut u32,
             longest_search: *mut u32,
         ) -> u32;
-        pub fn sumopine_read_chart(chart: *const u8, chart_len: usize, columns: *mut u32, notes: *mut u32, draws: *mut u32) -> u32;
+        pub fn sumopine_read_chart(
+            chart: *const u8,
+            chart_len: usize,
+            version: *mut u32,
+            columns: *mut u32,
+            notes: *mut u32,
+            draws: *mut u32,
+        ) -> u32;
         pub fn sumopine_note(
             chart: *const u8,
             chart_len: usize,
@@ -28,6 +35,8 @@ mod c {
             hold: *mut u32,
             start: *mut u64,
             duration: *mut u64,
+            has_object: *mut u32,
+            object: *mut u32,
         ) -> u32;
     }
 }
@@ -75,28 +84,62 @@ pub fn convert(record: &[u8], chart: &mut [u8], allowance: u32) -> Numbers {
     Numbers { number, length, object, draws, longest_search }
 }
 
-/// `sumopine_read_chart`: its result, then columns, notes and draws.
-pub fn read(chart: &[u8]) -> [u32; 4] {
-    let (mut columns, mut notes, mut draws) = (u32::MAX, u32::MAX, u32::MAX);
-    let number = unsafe { c::sumopine_read_chart(chart.as_ptr(), chart.len(), &mut columns, &mut notes, &mut draws) };
+/// `sumopine_read_chart`: its result, then version, columns, notes and draws.
+pub fn read(chart: &[u8]) -> [u32; 5] {
+    let [mut version, mut columns, mut notes, mut draws] = [u32::MAX; 4];
+    let number = unsafe { c::sumopine_read_chart(chart.as_ptr(), chart.len(), &mut version, &mut columns, &mut notes, &mut draws) };
 
-    [number, columns, notes, draws]
+    [number, version, columns, notes, draws]
 }
 
-/// `sumopine_note`: its result, then column, hold, start and duration.
-pub fn note(chart: &[u8], index: u32) -> (u32, u32, u32, u64, u64) {
-    let (mut column, mut hold, mut start, mut duration) = (u32::MAX, u32::MAX, u64::MAX, u64::MAX);
-    let found = unsafe { c::sumopine_note(chart.as_ptr(), chart.len(), index, &mut column, &mut hold, &mut start, &mut duration) };
+/// What `sumopine_note` gives to the host.
+#[derive(Clone, Copy, Debug, Default, PartialEq, Eq)]
+pub struct NoteNumbers {
+    pub found: u32,
+    pub column: u32,
+    pub hold: u32,
+    pub start: u64,
+    pub duration: u64,
+    pub has_object: u32,
+    pub object: u32,
+}
 
-    (found, column, hold, start, duration)
+/// `sumopine_note`.
+pub fn note(chart: &[u8], index: u32) -> NoteNumbers {
+    let ([mut column, mut hold, mut has_object, mut object], [mut start, mut duration]) = ([u32::MAX; 4], [u64::MAX; 2]);
+    let found = unsafe {
+        c::sumopine_note(
+            chart.as_ptr(),
+            chart.len(),
+            index,
+            &mut column,
+            &mut hold,
+            &mut start,
+            &mut duration,
+            &mut has_object,
+            &mut object,
+        )
+    };
+
+    NoteNumbers { found, column, hold, start, duration, has_object, object }
 }
 
 /// What `read` gives for what the Rust reads.
-pub fn header(chart: Option<&Chart>) -> [u32; 4] {
-    chart.map_or([14, 0, 0, 0], |chart| [0, u32::from(chart.columns), chart.notes.len() as u32, chart.draws])
+pub fn header(chart: Option<&Chart>) -> [u32; 5] {
+    chart.map_or([14, 0, 0, 0, 0], |chart| [0, chart.version.into(), chart.columns.into(), chart.notes.len() as u32, chart.draws])
 }
 
 /// What `note` gives for a note.
-pub fn fields(note: &Note) -> (u32, u32, u32, u64, u64) {
-    (1, u32::from(note.column), u32::from(note.hold), note.start, note.duration)
+impl From<&Note> for NoteNumbers {
+    fn from(note: &Note) -> Self {
+        Self {
+            found: 1,
+            column: note.column.into(),
+            hold: note.hold.into(),
+            start: note.start,
+            duration: note.duration,
+            has_object: note.object.is_some().into(),
+            object: note.object.unwrap_or(0).into(),
+        }
+    }
 }

@@ -7,9 +7,9 @@ use std::process::ExitCode;
 use std::time::Instant;
 
 use compare::{LARGEST, lent_bytes};
-use entry::JobEnd;
+use entry::{HEADER_BYTES, JobEnd, NOTE_BYTES, OLD_NOTE_BYTES};
 use jobs::Rng;
-use library::{Numbers, fields, header};
+use library::{NoteNumbers, Numbers, header};
 
 /// Guard bytes on either side.
 const GUARD: usize = 64;
@@ -48,15 +48,17 @@ fn same_job(record: &[u8], buffer: &[u8], allowance: u32) -> (JobEnd, Vec<u8>, b
     (end, expected, same)
 }
 
-/// Whether the library reads a chart, each of its notes and the two indices after them as the Rust does.
+/// Whether the library reads a chart, each of its notes and the two indices after them as the Rust does. Bytes that are no chart are taken for
+/// version 2 unless they say 1.
 fn same_chart(bytes: &[u8]) -> bool {
     let chart = reference::read_chart(bytes);
     let mut lent = Guarded::new(bytes);
     let same = library::read(lent.inner()) == header(chart.as_ref());
     let notes = chart.map_or(Vec::new(), |chart| chart.notes);
-    let same_notes = notes.iter().zip(0..).all(|(note, index)| library::note(lent.inner(), index) == fields(note));
-    let past = (bytes.len().saturating_sub(8) / 17) as u32;
-    let none = [past, past + 1, u32::MAX].iter().all(|&index| library::note(lent.inner(), index) == (0, 0, 0, 0, 0));
+    let same_notes = notes.iter().zip(0..).all(|(note, index)| library::note(lent.inner(), index) == NoteNumbers::from(note));
+    let size = if bytes.first().is_some_and(|first| first >> 4 == 1) { OLD_NOTE_BYTES } else { NOTE_BYTES };
+    let past = (bytes.len().saturating_sub(HEADER_BYTES) / size) as u32;
+    let none = [past, past + 1, u32::MAX].iter().all(|&index| library::note(lent.inner(), index) == NoteNumbers::default());
 
     same && same_notes && none && lent.holds(bytes)
 }

@@ -69,7 +69,7 @@ impl Announced {
             difficulty_points: Vec::new(),
             effect_points: Vec::new(),
             hit_objects,
-            hit_sounds: Vec::new(),
+            hit_sounds: Default::default(),
         };
 
         Self { map }
@@ -115,7 +115,7 @@ pub fn slider_end(ask: &AnnouncedSlider, distance: Option<f64>) -> Result<u64, u
     match single(&ask.single(distance), &mut note) {
         SingleEnd::Refused { number, .. } => Err(number),
         SingleEnd::Made { .. } => {
-            let note = note_at(&note);
+            let (note, _) = note_at(&note);
             Ok((f64::from_bits(note.start) + f64::from_bits(note.duration)) as u64)
         }
     }

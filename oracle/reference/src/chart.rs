@@ -9,20 +9,31 @@ use crate::{
 };
 
 pub const HEAD: usize = 8;
-pub const NOTE: usize = 17;
+/// Bytes of a note in version 2, which is written.
+pub const NOTE: usize = 19;
+/// Bytes of a note in version 1.
+const OLD_NOTE: usize = 17;
+/// Bytes of a note's start and duration, with which it ends.
+const TIMES: usize = 16;
 
-/// A note of the unchanged list, with its column found back from its position.
-pub fn note_of(object: &HitObject, columns: f32) -> Note {
-    let (hold, duration) = match object.kind {
+/// The index of the object that made a note of the unchanged list: see `Pos::new`.
+pub fn maker_of(note: &HitObject) -> u16 {
+    note.pos.y as u16
+}
+
+/// A note of the unchanged list, with its column found back from its position, and the index of its object.
+pub fn note_of(note: &HitObject, columns: f32, object: u16) -> Note {
+    let (hold, duration) = match note.kind {
         HitObjectKind::Circle => (false, 0),
         HitObjectKind::Hold(HoldNote { duration }) => (true, duration.to_bits()),
         _ => unreachable!("conversion makes circles and holds"),
     };
 
     Note {
-        column: ManiaObject::column(object.pos.x, columns) as u8,
+        column: ManiaObject::column(note.pos.x, columns) as u8,
         hold,
-        start: object.start_time.to_bits(),
+        object: Some(object),
+        start: note.start_time.to_bits(),
         duration,
     }
 }
@@ -36,23 +47,34 @@ pub fn sort(notes: &mut [Note]) {
 /// Writes notes one after another from the buffer's start, which has room for them.
 pub fn write_notes(notes: impl Iterator<Item = Note>, buffer: &mut [u8]) {
     for (note, bytes) in notes.zip(buffer.chunks_exact_mut(NOTE)) {
-        bytes[0] = note.column << 4 | u8::from(note.hold) << 3;
-        bytes[1..9].copy_from_slice(&note.start.to_be_bytes());
-        bytes[9..17].copy_from_slice(&note.duration.to_be_bytes());
+        let object = note.object.expect("a note that was made has an object");
+        let head = u32::from(note.column) << 20 | u32::from(note.hold) << 19 | u32::from(object) << 7;
+        bytes[..3].copy_from_slice(&head.to_be_bytes()[1..]);
+        bytes[3..11].copy_from_slice(&note.start.to_be_bytes());
+        bytes[11..].copy_from_slice(&note.duration.to_be_bytes());
     }
 }
 
-/// The note in these bytes, which none of the reader's rules need keep.
-pub fn note_at(bytes: &[u8]) -> Note {
-    let word =
-        |from| bytes[from..from + 8].iter().fold(0, |word, byte| word << 8 | u64::from(*byte));
+/// The note in these bytes, which are of version 2 unless they are a version 1 note's, and its zero bits. None of the reader's rules need be kept.
+pub fn note_at(bytes: &[u8]) -> (Note, u32) {
+    let (head, times) = bytes.split_at(bytes.len() - TIMES);
+    let number = |bytes: &[u8]| bytes.iter().fold(0, |number, byte| number << 8 | u64::from(*byte));
+    let (start, duration) = (number(&times[..8]), number(&times[8..]));
+    let head = number(head) as u32;
 
-    Note { column: bytes[0] >> 4, hold: bytes[0] >> 3 & 1 == 1, start: word(1), duration: word(9) }
+    if bytes.len() == OLD_NOTE {
+        let note = Note { column: (head >> 4) as u8, hold: head >> 3 & 1 == 1, object: None, start, duration };
+        (note, head & 7)
+    } else {
+        let object = Some((head >> 7 & 0xfff) as u16);
+        let note = Note { column: (head >> 20) as u8, hold: head >> 19 & 1 == 1, object, start, duration };
+        (note, head & 127)
+    }
 }
 
 pub fn write_head(columns: u8, notes: usize, draws: u32, buffer: &mut [u8]) {
     buffer[..4].copy_from_slice(&(notes as u32).to_be_bytes());
-    buffer[0] = 1 << 4 | columns;
+    buffer[0] = 2 << 4 | columns;
     buffer[4..HEAD].copy_from_slice(&draws.to_be_bytes());
 }
 
@@ -88,19 +110,26 @@ pub fn read_chart(bytes: &[u8]) -> Option<Chart> {
     let columns = first & 15;
     let count = count.iter().fold(0, |count, byte| count << 8 | usize::from(*byte));
 
-    if first >> 4 != 1 || !(1..=9).contains(&columns) || rest.len() != count * NOTE {
+    let version = first >> 4;
+    let size = match version {
+        1 => OLD_NOTE,
+        2 => NOTE,
+        _ => return None,
+    };
+
+    if !(1..=9).contains(&columns) || rest.len() != count * size {
         return None;
     }
 
     let mut notes = Vec::with_capacity(count);
     let mut before = (0.0, 0);
 
-    for bytes in rest.chunks_exact(NOTE) {
-        let note = note_at(bytes);
+    for bytes in rest.chunks_exact(size) {
+        let (note, zero_bits) = note_at(bytes);
         let start = f64::from_bits(note.start);
         let duration = f64::from_bits(note.duration);
 
-        let kept = bytes[0] & 7 == 0
+        let kept = zero_bits == 0
             && note.column < columns
             && is_time(start)
             && is_time(duration)
@@ -116,5 +145,5 @@ pub fn read_chart(bytes: &[u8]) -> Option<Chart> {
         notes.push(note);
     }
 
-    Some(Chart { columns, draws: u32::from_be_bytes([d0, d1, d2, d3]), notes })
+    Some(Chart { version, columns, draws: u32::from_be_bytes([d0, d1, d2, d3]), notes })
 }

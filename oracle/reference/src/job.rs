@@ -4,7 +4,7 @@ use entry::{JobEnd, Note};
 
 use crate::{
     Beatmap, GameMods,
-    chart::{HEAD, NOTE, note_of, sort, write_head, write_notes},
+    chart::{HEAD, NOTE, maker_of, note_of, sort, write_head, write_notes},
     mania::convert::convert,
     record,
     stop::{ends_too_late, guarded},
@@ -82,8 +82,11 @@ fn try_job(record: &[u8], chart: &mut [u8], allowance: u64) -> JobEnd {
         return match (late, whole.end) {
             (Some(object), _) => refused(8, object, whole.draws),
             (None, Ok(made)) => {
-                let mut notes: Vec<Note> =
-                    made.hit_objects.iter().map(|object| note_of(object, made.cs)).collect();
+                let mut notes: Vec<Note> = made
+                    .hit_objects
+                    .iter()
+                    .map(|note| note_of(note, made.cs, maker_of(note)))
+                    .collect();
                 sort(&mut notes);
                 write_head(made.cs as u8, notes.len(), whole.draws as u32, chart);
                 let length = room(notes.len());

@@ -10,6 +10,7 @@ use rosu_map::{
 use crate::{
     Beatmap, GameMods,
     model::{
+        beatmap::HitSounds,
         control_point::{DifficultyPoint, EffectPoint, TimingPoint},
         hit_object::{HitObject, HitObjectKind, HoldNote, Slider, Spinner},
     },
@@ -209,7 +210,7 @@ pub fn read(record: &[u8]) -> Result<(Beatmap, GameMods), Refusal> {
         difficulty_points,
         effect_points,
         hit_objects,
-        hit_sounds,
+        hit_sounds: HitSounds(hit_sounds),
     };
 
     Ok((map, GameMods { key_choice }))

@@ -110,7 +110,7 @@ fn map_of(ask: &Single) -> Beatmap {
         }],
         effect_points: vec![EffectPoint { time, kiai: ask.kiai, ..Default::default() }],
         hit_objects: Vec::new(),
-        hit_sounds: Vec::new(),
+        hit_sounds: Default::default(),
     }
 }
 
@@ -260,7 +260,7 @@ fn try_single(ask: &Single, buffer: &mut [u8]) -> Result<SingleEnd, u8> {
         return Err(11);
     }
 
-    write_notes(made.notes.iter().map(|note| note_of(note, map.cs)), buffer);
+    write_notes(made.notes.iter().map(|note| note_of(note, map.cs, 0)), buffer);
     let (x, y, z, w) = random.words();
 
     Ok(SingleEnd::Made {

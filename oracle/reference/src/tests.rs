@@ -1,11 +1,12 @@
 //! Document 01's bench table and refusal table, and the job against a walk of single objects.
 
-use entry::{Chart, JobEnd, Kind, Note, Single, SingleEnd, State};
+use entry::{Chart, JobEnd, Kind, NOTE_BYTES, Note, Single, SingleEnd, State, chart_bytes};
 use jobs::{Object, Song};
 
 use rosu_map::util::Pos;
 
 use crate::{
+    chart::note_at,
     convert_only, job,
     job::walk,
     mania::{convert::single::representative, object::ManiaObject},
@@ -98,7 +99,7 @@ fn ask(kind: Kind) -> Single {
 
 /// Runs a single object in a buffer for `room` notes, and gives its notes as a chart's reader would.
 fn made(ask: &Single, room: usize) -> (SingleEnd, Vec<Note>) {
-    let mut bytes = vec![0xA5; room * 17];
+    let mut bytes = vec![0xA5; room * NOTE_BYTES];
     let end = single(ask, &mut bytes);
     let notes = match end {
         SingleEnd::Made { notes, .. } => notes as usize,
@@ -107,17 +108,14 @@ fn made(ask: &Single, room: usize) -> (SingleEnd, Vec<Note>) {
             0
         }
     };
-    assert!(bytes[notes * 17..].iter().all(|byte| *byte == 0xA5));
-    let notes = bytes[..notes * 17]
-        .chunks(17)
-        .map(|note| Note {
-            column: note[0] >> 4,
-            hold: note[0] & 15 == 8,
-            start: u64::from_be_bytes(note[1..9].try_into().unwrap()),
-            duration: u64::from_be_bytes(note[9..].try_into().unwrap()),
-        })
-        .collect();
-    (end, notes)
+    let (made, rest) = bytes.split_at(notes * NOTE_BYTES);
+    assert!(rest.iter().all(|byte| *byte == 0xA5));
+    let notes = made.chunks(NOTE_BYTES).map(|bytes| {
+        let (note, zero_bits) = note_at(bytes);
+        assert_eq!((note.object, zero_bits), (Some(0), 0));
+        note
+    });
+    (end, notes.collect())
 }
 
 fn single_number(ask: &Single) -> u8 {
@@ -185,6 +183,7 @@ fn slider_ends() {
         [Note {
             column: 0,
             hold: true,
+            object: Some(0),
             start: 1000.0_f64.to_bits(),
             duration: 1000.0_f64.to_bits(),
         }]
@@ -236,15 +235,17 @@ fn reverse() {
 fn charttext() {
     let song = Song { key_choice: 9, objects: vec![object(1000.0, hold(300.0))], ..plain() };
     let (end, chart) = run(&song.bytes(), 65_536, 1_000_000);
-    assert_eq!(end, JobEnd::Chart { length: 25, longest_search: 0 });
+    assert_eq!(end, JobEnd::Chart { length: 27, longest_search: 0 });
     assert_eq!(
         chart,
         Some(Chart {
+            version: 2,
             columns: 9,
             draws: 1,
             notes: vec![Note {
                 column: 1,
                 hold: true,
+                object: Some(0),
                 start: 0x408F_4000_0000_0000,
                 duration: 0x4072_C000_0000_0000
             }],
@@ -395,7 +396,7 @@ fn refusal_8() {
     };
     assert_eq!(refusal(&song.bytes(), 1000, 9), (8, 1, 1));
     // An object before it can still refuse first.
-    assert_eq!(refusal(&song.bytes(), 24, 9), (11, 0, 1));
+    assert_eq!(refusal(&song.bytes(), chart_bytes(1) - 1, 9), (11, 0, 1));
     assert_eq!(refusal(&song.bytes(), 1000, 0), (12, 0, 0));
     assert_eq!(convert_only(&song.bytes()), None);
 
@@ -449,10 +450,10 @@ fn refusal_11() {
     assert_eq!(refusal(&record, 7, 9), (11, 0, 0));
     assert_eq!(refusal(&record, 8, 0), (12, 0, 0));
     assert_eq!(refusal(&record, 8, 9), (11, 0, 1));
-    assert_eq!(refusal(&record, 8 + 33, 9), (11, 1, 2));
-    assert_eq!(refusal(&record, 8 + 34, 2), (12, 2, 2));
-    assert_eq!(refusal(&record, 8 + 50, 3), (11, 2, 3));
-    assert_eq!(refusal(&record, 8 + 51, 3), (0, 0, 0));
+    assert_eq!(refusal(&record, chart_bytes(2) - 1, 9), (11, 1, 2));
+    assert_eq!(refusal(&record, chart_bytes(2), 2), (12, 2, 2));
+    assert_eq!(refusal(&record, chart_bytes(3) - 1, 3), (11, 2, 3));
+    assert_eq!(refusal(&record, chart_bytes(3), 3), (0, 0, 0));
     let hold = ask(hold(300.0));
     assert_eq!(made(&hold, 0).0, SingleEnd::Refused { number: 11, state: STATE });
     assert_eq!(
@@ -545,34 +546,45 @@ fn refusal_13_and_order_of_single() {
 fn refusal_14() {
     type Change = fn(&mut [u8]);
     const LAST: f64 = 33_554_431.0;
-    let write = |start: f64, duration: f64| {
-        let mut bytes = vec![0x14, 0, 0, 1, 0, 0, 0, 0, 0x38];
+    // A hold in column 3, in version 1 or, with object 1, in version 2.
+    let write_in = |version: u8, start: f64, duration: f64| {
+        let mut bytes = vec![version << 4 | 4, 0, 0, 1, 0, 0, 0, 0, 0x38];
+        if version == 2 {
+            bytes.extend([0, 0x80]);
+        }
         bytes.extend(start.to_bits().to_be_bytes());
         bytes.extend(duration.to_bits().to_be_bytes());
         bytes
     };
-    let good = write(1.0, 2.0);
-    assert!(read_chart(&good).is_some());
-    for length in 0..good.len() {
-        assert_eq!(read_chart(&good[..length]), None);
-    }
-    let mut more = good.clone();
-    more.push(0);
-    assert_eq!(read_chart(&more), None);
-    let changes: [Change; 7] = [
-        |c| c[0] = 0x24,
-        |c| c[0] = 0x10,
-        |c| c[0] = 0x1A,
-        |c| c[0] = 0x13,
-        |c| c[8] |= 1,
+    let changes: [Change; 9] = [
+        |c| c[0] = 0x04,
+        |c| c[0] = 0x34,
+        |c| c[0] ^= 0x30,
+        |c| c[0] &= 0xF0,
+        |c| c[0] |= 0x0A,
+        |c| c[0] -= 1,
+        |c| c[if c[0] == 0x14 { 8 } else { 10 }] |= 1,
         |c| c[8] = 0x30,
         |c| c[3] = 0,
     ];
-    for change in changes {
-        let mut bad = good.clone();
-        change(&mut bad);
-        assert_eq!(read_chart(&bad), None);
+    for (version, object) in [(1, None), (2, Some(1))] {
+        let good = write_in(version, 1.0, 2.0);
+        let chart = read_chart(&good).unwrap();
+        assert_eq!((chart.version, chart.notes[0].object), (version, object));
+        for length in 0..good.len() {
+            assert_eq!(read_chart(&good[..length]), None);
+        }
+        let mut more = good.clone();
+        more.push(0);
+        assert_eq!(read_chart(&more), None);
+        for change in changes {
+            let mut bad = good.clone();
+            change(&mut bad);
+            assert_eq!(read_chart(&bad), None);
+        }
     }
+    let write = |start: f64, duration: f64| write_in(2, start, duration);
+    let good = write(1.0, 2.0);
     for (start, duration) in [
         (-0.0, 1.0),
         (-1.0, 1.0),
@@ -606,7 +618,7 @@ fn refusal_14() {
     let two = |column: u8, second: f64| {
         let mut bytes = good.clone();
         bytes[3] = 2;
-        bytes.push(column << 4);
+        bytes.extend([column << 4, 0, 0]);
         bytes.extend(second.to_bits().to_be_bytes());
         bytes.extend([0; 8]);
         read_chart(&bytes).is_some()
@@ -614,6 +626,28 @@ fn refusal_14() {
     assert!(two(3, 1.0) && two(0, 1.0_f64.next_up()) && two(0, LAST));
     assert!(!two(2, 1.0) && !two(0, 1.0));
     assert!(!two(3, 1.0_f64.next_down()) && !two(0, LAST.next_up()));
+}
+
+// What the object of a note rests on: x and y of a note are made equal, those of no other position are, and no y is read.
+#[test]
+fn a_note_s_y_is_free() {
+    macro_rules! rust {
+        ($($name:literal)*) => {
+            [$(include_str!(concat!(env!("OUT_DIR"), "/rust/mania/", $name, ".rs"))),*]
+        };
+    }
+    let files = rust!["object" "convert/mod" "convert/pattern" "convert/pattern_generator/mod" "convert/pattern_generator/hit_object"
+        "convert/pattern_generator/path_object" "convert/pattern_generator/end_time_object"];
+    let mut made = 0;
+    for text in files {
+        assert!(!text.contains("pos.y") && !text.contains("Pos {"));
+        for (at, call) in text.match_indices("Pos::new") {
+            let rest = &text[at + call.len()..];
+            assert!(rest.starts_with("(pos, pos)") || rest.starts_with("(256.0, 192.0)"), "{}", &rest[..20]);
+            made += 1;
+        }
+    }
+    assert_eq!(made, 6);
 }
 
 // What `single` rests on: difficulty is only ever compared, and with these numbers.
@@ -796,7 +830,7 @@ fn by_singles(song: &Song, columns: u32, seed: u32) -> Result<(Vec<Note>, u32), 
     let mut draws = 0;
     let mut notes = Vec::new();
 
-    for o in &song.objects {
+    for (index, o) in (0..).zip(&song.objects) {
         let beat_length = in_force(&song.timing, o.start)
             .or(song.timing.first().map(|point| point.1))
             .unwrap_or(1000.0);
@@ -843,7 +877,7 @@ fn by_singles(song: &Song, columns: u32, seed: u32) -> Result<(Vec<Note>, u32), 
                 draws += taken;
             }
         }
-        notes.extend(more);
+        notes.extend(more.into_iter().map(|note| Note { object: Some(index), ..note }));
 
         match o.kind {
             Kind::Circle => (prev_time, prev_x, prev_y) = (o.start, o.x, o.y),
@@ -890,8 +924,13 @@ fn job_is_a_walk_of_singles() {
         assert_eq!(walked, Ok((whole.notes.clone(), whole.draws)));
         assert_eq!(convert_only(&record), Some((whole.notes.len() as u32, whole.draws)));
 
-        let length = 8 + 17 * whole.notes.len();
+        let length = chart_bytes(whole.notes.len());
         assert_eq!(run(&record, length, whole.draws).0, end);
+
+        // The notes of the first objects are those of a walk over them alone.
+        let first = dice.below(song.objects.len() as u64 + 1) as usize;
+        let of_first = whole.notes.iter().filter(|note| note.object < Some(first as u16));
+        assert_eq!(of_first.count(), first_objects(&song, first).0);
 
         // With fewer draws the objects before the one that stops still get theirs.
         if whole.draws > 0 {
@@ -910,8 +949,8 @@ fn job_is_a_walk_of_singles() {
             let object = object as usize;
             let (notes, taken) = first_objects(&song, object + 1);
             assert_eq!((number, draws), (11, taken));
-            assert!(8 + 17 * notes > short);
-            assert!(8 + 17 * first_objects(&song, object).0 <= short);
+            assert!(chart_bytes(notes) > short);
+            assert!(chart_bytes(first_objects(&song, object).0) <= short);
         }
     }
 }

@@ -9,28 +9,38 @@ use crate::{
 };
 
 pub const HEADER: usize = 8;
-pub const NOTE: usize = 17;
+/// A note as it is written, in version 2.
+pub const NOTE: usize = 19;
+/// A note of version 1.
+const OLD_NOTE: usize = 17;
 
 /// No note ends after this.
 const LAST_END: f64 = 33_554_431.0;
 
-pub fn pack_header(columns: u8, notes: usize, draws: u32) -> [u8; HEADER] {
-    (1 << 60 | u64::from(columns & 15) << 56 | (notes as u64 & 0xff_ffff) << 32 | u64::from(draws))
-        .to_be_bytes()
+fn pack_header(version: u8, columns: u8, notes: usize, draws: u32) -> [u8; HEADER] {
+    let [version, columns] = [version, columns].map(|field| u64::from(field & 15));
+
+    (version << 60 | columns << 56 | (notes as u64 & 0xff_ffff) << 32 | u64::from(draws)).to_be_bytes()
 }
 
-pub fn pack_note(note: &Note) -> [u8; NOTE] {
-    let mut bytes = [0; NOTE];
-    bytes[0] = (note.column & 15) << 4 | u8::from(note.hold) << 3;
-    bytes[1..9].copy_from_slice(&note.start.to_be_bytes());
-    bytes[9..].copy_from_slice(&note.duration.to_be_bytes());
+/// A note with its object in version 2, one without in version 1.
+pub fn pack_note(note: &Note) -> Vec<u8> {
+    let first = (note.column & 15) << 4 | u8::from(note.hold) << 3;
+    let mut bytes = match note.object {
+        None => vec![first],
+        // The index has 3 bits in the first byte, 8 in the second and 1 in the third.
+        Some(object) => vec![first | (object >> 9 & 7) as u8, (object >> 1 & 255) as u8, (object << 7 & 128) as u8],
+    };
+    bytes.extend(note.start.to_be_bytes());
+    bytes.extend(note.duration.to_be_bytes());
 
     bytes
 }
 
-pub fn write_chart(columns: u8, draws: u32, notes: &[Note]) -> Vec<u8> {
-    let mut bytes = pack_header(columns, notes.len(), draws).to_vec();
-    bytes.extend(notes.iter().flat_map(pack_note));
+/// A chart whose notes have objects exactly in version 2.
+pub fn write_chart(chart: &Chart) -> Vec<u8> {
+    let mut bytes = pack_header(chart.version, chart.columns, chart.notes.len(), chart.draws).to_vec();
+    bytes.extend(chart.notes.iter().flat_map(pack_note));
 
     bytes
 }
@@ -49,13 +59,16 @@ fn demand(holds: bool, row: B) -> Option<()> {
 pub fn read_chart(bytes: &[u8]) -> Option<Chart> {
     demand(bytes.len() >= HEADER, B::chart_header_cut)?;
     let mut bits = Bits::new(bytes);
-    demand(bits.field(4)? == 1, B::chart_version)?;
+    let version = bits.field(4)? as u8;
+    demand(version == 1 || version == 2, B::chart_version)?;
+    let told = version == 2;
+    let size = if told { NOTE } else { OLD_NOTE };
     let columns = bits.field(4)? as u8;
     demand((1..=9).contains(&columns), B::chart_columns)?;
     let count = bits.field(24)? as usize;
     let draws = bits.field(32)? as u32;
-    demand(bytes.len() >= HEADER + NOTE * count, B::chart_notes_missing)?;
-    demand(bytes.len() <= HEADER + NOTE * count, B::chart_bytes_follow)?;
+    demand(bytes.len() >= HEADER + size * count, B::chart_notes_missing)?;
+    demand(bytes.len() <= HEADER + size * count, B::chart_bytes_follow)?;
 
     let last_end = Ticks::of(LAST_END)?;
     let mut notes: Vec<Note> = Vec::with_capacity(count);
@@ -66,7 +79,12 @@ pub fn read_chart(bytes: &[u8]) -> Option<Chart> {
         let column = bits.field(4)? as u8;
         demand(column < columns, B::chart_column)?;
         let hold = bits.field(1)? == 1;
-        demand(bits.field(3)? == 0, B::chart_zero_bits)?;
+        let object = if told { Some(bits.field(12)? as u16) } else { None };
+        if told {
+            demand(bits.field(7)? == 0, B::chart_zero_bits)?;
+        } else {
+            demand(bits.field(3)? == 0, B::chart_old_zero_bits)?;
+        }
         let start = bits.field(64)?;
         let duration = bits.field(64)?;
         let negative_zero = (-0.0_f64).to_bits();
@@ -99,13 +117,15 @@ pub fn read_chart(bytes: &[u8]) -> Option<Chart> {
         notes.push(Note {
             column,
             hold,
+            object,
             start,
             duration,
         });
     }
 
-    hit(B::chart_read);
+    hit(if told { B::chart_read } else { B::chart_old_read });
     Some(Chart {
+        version,
         columns,
         draws,
         notes,

@@ -1,9 +1,9 @@
 //! The walk over a job's objects, and the entry for one object.
 
-use entry::{JobEnd, Single, SingleEnd};
+use entry::{Chart, JobEnd, Single, SingleEnd};
 
 use crate::{
-    chart::{HEADER, NOTE, pack_header, pack_note},
+    chart::{HEADER, NOTE, pack_note, write_chart},
     circle,
     draws::Draws,
     ended,
@@ -152,7 +152,8 @@ struct Stop {
     object: usize,
 }
 
-fn walk(song: &Song, columns: i32, room: usize, draws: &mut Draws) -> Result<Vec<Note>, Stop> {
+/// All notes in walk order, each behind the index of its object.
+fn walk(song: &Song, columns: i32, room: usize, draws: &mut Draws) -> Result<Vec<(u16, Note)>, Stop> {
     let difficulty = song.conversion_difficulty();
     let mut density = Density {
         times: Vec::new(),
@@ -223,7 +224,7 @@ fn walk(song: &Song, columns: i32, room: usize, draws: &mut Draws) -> Result<Vec
             return Err(stop(Refusal::BufferShort));
         }
 
-        notes.extend(made.notes);
+        notes.extend(made.notes.into_iter().map(|note| (index as u16, note)));
     }
 
     Ok(notes)
@@ -256,9 +257,9 @@ pub fn job(record: &[u8], chart: &mut [u8], allowance: u32) -> JobEnd {
 
     match walk(&song, columns, room, &mut draws) {
         Ok(mut notes) => {
-            hit(if notes.is_sorted_by(|a, b| (a.start, a.column) <= (b.start, b.column)) {
+            hit(if notes.is_sorted_by(|(_, a), (_, b)| (a.start, a.column) <= (b.start, b.column)) {
                 B::job_already_in_order
-            } else if notes.is_sorted_by(|a, b| a.start <= b.start) {
+            } else if notes.is_sorted_by(|(_, a), (_, b)| a.start <= b.start) {
                 B::job_chords_put_in_order
             } else {
                 B::job_put_in_order
@@ -266,18 +267,19 @@ pub fn job(record: &[u8], chart: &mut [u8], allowance: u32) -> JobEnd {
 
             // By column, then by start. Both sorts are stable, so of equal starts the lowest column comes first, and equal start and
             // column keep walk order.
-            notes.sort_by_key(|note| note.column);
-            notes.sort_by(|a, b| a.start.total_cmp(&b.start));
-            let length = HEADER + NOTE * notes.len();
-            chart[..HEADER].copy_from_slice(&pack_header(columns as u8, notes.len(), draws.taken));
-
-            for (place, note) in chart[HEADER..length].chunks_exact_mut(NOTE).zip(&notes) {
-                place.copy_from_slice(&pack_note(&note.packed()));
-            }
+            notes.sort_by_key(|(_, note)| note.column);
+            notes.sort_by(|(_, a), (_, b)| a.start.total_cmp(&b.start));
+            let bytes = write_chart(&Chart {
+                version: 2,
+                columns: columns as u8,
+                draws: draws.taken,
+                notes: notes.iter().map(|(index, note)| note.of_object(*index)).collect(),
+            });
+            chart[..bytes.len()].copy_from_slice(&bytes);
 
             hit(B::job_chart);
             JobEnd::Chart {
-                length,
+                length: bytes.len(),
                 longest_search: draws.longest_search,
             }
         }
@@ -425,7 +427,7 @@ pub fn single(ask: &Single, buffer: &mut [u8]) -> SingleEnd {
     match made {
         Ok(made) => {
             for (place, note) in buffer.chunks_exact_mut(NOTE).zip(&made.notes) {
-                place.copy_from_slice(&pack_note(&note.packed()));
+                place.copy_from_slice(&pack_note(&note.of_object(0)));
             }
 
             hit(B::single_made);

@@ -353,6 +353,7 @@ branches! {
     chart_bytes_follow
     chart_column
     chart_zero_bits
+    chart_old_zero_bits
     chart_negative_zero
     chart_not_finite
     chart_start_negative
@@ -362,6 +363,7 @@ branches! {
     chart_circle_with_duration
     chart_end_beyond
     chart_read
+    chart_old_read
     // Refusals by entry.
     job_refused_1
     job_refused_2

@@ -15,10 +15,12 @@ pub struct Note {
 }
 
 impl Note {
-    pub const fn packed(&self) -> entry::Note {
+    /// As a chart has it, with the index of its object.
+    pub const fn of_object(&self, index: u16) -> entry::Note {
         entry::Note {
             column: self.column,
             hold: self.hold,
+            object: Some(index),
             start: self.start.to_bits(),
             duration: self.duration.to_bits(),
         }

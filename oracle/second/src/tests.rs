@@ -1,6 +1,6 @@
 //! Document 01's bench table and refusal table, and laws on random inputs.
 
-use entry::{JobEnd, Kind, Single, SingleEnd, State};
+use entry::{Chart, JobEnd, Kind, NOTE_BYTES, Single, SingleEnd, State, chart_bytes};
 use jobs::{Object, Rng, Song};
 
 use crate::{
@@ -204,7 +204,7 @@ fn slider_times() {
 #[test]
 fn end_time_notes() {
     let note = |duration| {
-        let mut buffer = [0; 17];
+        let mut buffer = [0; NOTE_BYTES];
         let ask = Single {
             start: 0.0,
             kind: Kind::Spinner { duration },
@@ -220,7 +220,7 @@ fn end_time_notes() {
         ));
         (
             buffer[0] >> 3 & 1,
-            f64::from_bits(u64::from_be_bytes(buffer[9..].try_into().unwrap())),
+            f64::from_bits(u64::from_be_bytes(buffer[11..].try_into().unwrap())),
         )
     };
     assert_eq!(note(99.9), (0, 0.0));
@@ -229,7 +229,7 @@ fn end_time_notes() {
 
 #[test]
 fn reverse_of_column_1() {
-    let mut buffer = [0; 17];
+    let mut buffer = [0; NOTE_BYTES];
     let ask = Single {
         prev_mask: 2,
         prev_last: 1,
@@ -494,7 +494,7 @@ fn refusal_8() {
     };
     assert!(matches!(
         end(16_777_216.0 / 160.0),
-        JobEnd::Chart { length: 25, .. }
+        JobEnd::Chart { length: 27, .. }
     ));
     assert_eq!(end(16_777_217.0 / 160.0), refused(8, 0, 0));
 }
@@ -694,8 +694,8 @@ fn refusal_11() {
     };
     assert_eq!(end(7, 9), (refused(11, 0, 0), 0));
     assert_eq!(end(8, 9), (refused(11, 0, 1), 0));
-    assert_eq!(end(24, 9), (refused(11, 0, 1), 0));
-    assert_eq!(end(25, 1), (refused(12, 1, 1), 0));
+    assert_eq!(end(26, 9), (refused(11, 0, 1), 0));
+    assert_eq!(end(27, 1), (refused(12, 1, 1), 0));
     let (
         JobEnd::Refused {
             number: 11,
@@ -703,17 +703,17 @@ fn refusal_11() {
             draws,
         },
         0,
-    ) = end(41, 99)
+    ) = end(45, 99)
     else {
         panic!()
     };
     assert!(draws >= 2);
     let chart = JobEnd::Chart {
-        length: 42,
+        length: 46,
         longest_search: 0,
     };
-    assert_eq!(end(42, 99), (chart, 0));
-    assert_eq!(end(50, 99), (chart, 8));
+    assert_eq!(end(46, 99), (chart, 0));
+    assert_eq!(end(54, 99), (chart, 8));
     // The record comes before the buffer, the buffer before the walk.
     let mut chart = [0xaa; 7];
     assert_eq!(job(&[0x2a], &mut chart, 0), refused(2, 0, 0));
@@ -802,22 +802,26 @@ fn refusal_14() {
     let note = |hold, start: f64, duration: f64| entry::Note {
         column: 0,
         hold,
+        object: None,
         start: start.to_bits(),
         duration: duration.to_bits(),
     };
-    let reads = |notes: &[entry::Note]| {
-        let bytes = write_chart(1, 7, notes);
-        match read_chart(&bytes) {
-            None => false,
-            Some(chart) => {
-                assert_eq!(
-                    (chart.columns, chart.draws, &chart.notes[..]),
-                    (1, 7, notes)
-                );
-                true
-            }
-        }
+    let reads_in = |version, object: Option<u16>, notes: &[entry::Note]| {
+        let notes = notes.iter().map(|&note| entry::Note { object, ..note }).collect();
+        let chart = Chart { version, columns: 1, draws: 7, notes };
+        let read = read_chart(&write_chart(&chart));
+        assert!(read.is_none() || read == Some(chart));
+        read.is_some()
     };
+    // In both versions, whatever the object.
+    let reads = |notes: &[entry::Note]| {
+        let old = reads_in(1, None, notes);
+        assert!([0, 1, 2, 255, 256, 4094, 4095].iter().all(|&object| reads_in(2, Some(object), notes) == old));
+        old
+    };
+    let circle = [note(false, 1.0, 0.0)];
+    assert!([0, 3, 4, 15].iter().all(|&version| !reads_in(version, None, &circle) && !reads_in(version, Some(0), &circle)));
+    assert!(!reads_in(1, Some(0), &circle) && !reads_in(2, None, &circle));
     let last = 33_554_431.0_f64;
     assert!(reads(&[]));
     assert!(reads(&[note(false, last, 0.0)]));
@@ -862,7 +866,7 @@ fn a_spinner_is_not_the_previous_pattern() {
         reverse_stair: true,
         ..ask()
     };
-    let end = single(&ask, &mut [0; 17]);
+    let end = single(&ask, &mut [0; NOTE_BYTES]);
     assert!(matches!(
         end,
         SingleEnd::Made {
@@ -878,7 +882,7 @@ fn a_spinner_is_not_the_previous_pattern() {
 #[test]
 fn x_below_0_is_the_first_column() {
     let column = |columns, x| {
-        let mut buffer = [0; 17];
+        let mut buffer = [0; NOTE_BYTES];
         let ask = Single {
             columns,
             x,
@@ -928,7 +932,7 @@ fn a_remainder_leaves_the_hold_alone_at_the_end() {
             beat_length: 1000.0,
             ..ask()
         };
-        let SingleEnd::Made { notes, mask, .. } = single(&ask, &mut [0; 17 * 9]) else {
+        let SingleEnd::Made { notes, mask, .. } = single(&ask, &mut [0; NOTE_BYTES * 9]) else {
             panic!()
         };
         (notes, mask.count_ones())
@@ -950,7 +954,7 @@ fn a_finish_at_8_columns_needs_no_draw() {
         ..ask()
     };
     assert!(matches!(
-        single(&ask, &mut [0; 17]),
+        single(&ask, &mut [0; NOTE_BYTES]),
         SingleEnd::Made {
             notes: 1,
             draws: 0,
@@ -1048,7 +1052,7 @@ fn an_allowance_only_ends_a_job() {
 #[test]
 fn notes_of_one_object_share_no_instant_in_a_column() {
     let mut rng = Rng::new(23);
-    let mut buffer = vec![0; 17 * 2100];
+    let mut buffer = vec![0; NOTE_BYTES * 2100];
 
     for _ in 0..20_000 {
         let (ask, _) = jobs::single(&mut rng);
@@ -1059,18 +1063,49 @@ fn notes_of_one_object_share_no_instant_in_a_column() {
             continue;
         };
         assert!(mask >> ask.columns == 0 && (mask >> last & 1 == 1 || (mask, last) == (0, 0)));
-        let word = |bytes: &[u8]| f64::from_bits(u64::from_be_bytes(bytes.try_into().unwrap()));
-        let mut places: Vec<(u8, f64, f64)> = buffer[..17 * notes as usize]
-            .chunks_exact(17)
-            .map(|note| (note[0] >> 4, word(&note[1..9]), word(&note[9..])))
-            .collect();
-        assert!(places.iter().all(|place| u32::from(place.0) < ask.columns));
-        places.sort_by(|a, b| a.0.cmp(&b.0).then(a.1.total_cmp(&b.1)));
-
-        for pair in places.windows(2).filter(|pair| pair[0].0 == pair[1].0) {
-            let ticks = |x| Ticks::of(x).unwrap();
-            let end = ticks(pair[0].1).plus(ticks(pair[0].2));
-            assert!(!ticks(pair[1].1).at_most(end), "{ask:?}");
-        }
+        let word = |bytes: &[u8]| u64::from_be_bytes(bytes.try_into().unwrap());
+        let notes = buffer[..NOTE_BYTES * notes as usize].chunks_exact(NOTE_BYTES).map(|note| entry::Note {
+            column: note[0] >> 4,
+            hold: note[0] >> 3 & 1 == 1,
+            object: Some(0),
+            start: word(&note[3..11]),
+            duration: word(&note[11..]),
+        });
+        let notes: Vec<_> = notes.collect();
+        assert!(notes.iter().all(|note| u32::from(note.column) < ask.columns));
+        assert!(apart(notes), "{ask:?}");
     }
+}
+
+/// Whether no two notes of one object and column share an instant.
+fn apart(mut notes: Vec<entry::Note>) -> bool {
+    let ticks = |bits| Ticks::of(f64::from_bits(bits)).unwrap();
+    let lane = |note: &entry::Note| (note.object, note.column);
+    // Times from 0 have their patterns' order.
+    notes.sort_by_key(|note| (lane(note), note.start));
+
+    notes
+        .windows(2)
+        .filter(|pair| lane(&pair[0]) == lane(&pair[1]))
+        .all(|pair| !ticks(pair[1].start).at_most(ticks(pair[0].start).plus(ticks(pair[0].duration))))
+}
+
+/// The lane rule, on a chart's bytes alone.
+#[test]
+fn notes_of_one_object_share_no_instant_in_a_chart() {
+    let mut rng = Rng::new(29);
+    let mut buffer = vec![0; chart_bytes(100_000)];
+    let mut shared = 0;
+
+    for _ in 0..500 {
+        let JobEnd::Chart { length, .. } = job(&jobs::record(&mut rng), &mut buffer, u32::MAX) else {
+            continue;
+        };
+        let notes = read_chart(&buffer[..length]).expect("a written chart is read").notes;
+        let as_one = notes.iter().map(|&note| entry::Note { object: Some(0), ..note }).collect();
+        shared += u32::from(!apart(as_one));
+        assert!(apart(notes));
+    }
+    // Notes of different objects often do.
+    assert!(shared > 50);
 }

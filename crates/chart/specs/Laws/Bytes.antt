@@ -85,6 +85,17 @@ splice-before s i a v h =
     rw (add-one i, take-suc s i 0 (omega arith), append-assoc (take i s) (getD s i 0 ∷ []) rest)
     (set-at (take i s) (getD s i 0) rest a i (length-take-le i s (omega arith)) ∙ rw same refl)
 
+-- a run, and then the run in front of it
+pub splice-front : (s : List ℕ) (i j : ℕ) (w v : List ℕ) → j ≡ i + length w → j + length v ≤ length s → splice (splice s j v) i w ≡ splice s i (w ++ v)
+unfolding splice
+splice-front s i j w v e h =
+    let front : take i (take j s ++ (v ++ drop (j + length v) s)) ≡ take i s =
+    take-append-le i (take j s) (v ++ drop (j + length v) s) (rw (length-take-le j s (omega arith)) (omega arith)) ∙ take-take i j s (omega arith) in
+    let rest : drop (i + length w) (take j s ++ (v ++ drop (j + length v) s)) ≡ v ++ drop (j + length v) s =
+    rw (← e) (drop-at (take j s) (v ++ drop (j + length v) s) j (length-take-le j s (omega arith))) in
+    let lengths : j + length v ≡ i + length (w ++ v) = omega (arith, length-append w v) in
+    rw (front, rest, lengths, append-assoc w v (drop (i + length (w ++ v)) s))
+
 -- a run, and then the run after it
 pub splice-next : (s : List ℕ) (i : ℕ) (v : List ℕ) (j : ℕ) (w : List ℕ) → j ≡ i + length v → j + length w ≤ length s
     → splice (splice s i v) j w ≡ splice s i (v ++ w)

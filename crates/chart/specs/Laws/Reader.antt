@@ -10,18 +10,36 @@ use native.Mathlib.Omega.{arith}
 use lib.Dec.{leb, ltb, eqb}
 use lib.ListN.{length, getD, drop}
 use lib.Seq.{getD-drop, drop-drop}
-use borrow.Author.Tests.{ne-eqb, eq-eqb, le-leb, eqb-true}
+use borrow.Author.Tests.{ne-eqb, eq-eqb, le-leb, lt-leb, eqb-true}
 use Rattle.rules.specs.Numbers as Numbers
 use Rattle.floats.specs.Ticks.{ticks}
-use Rattle.chart.specs.Layout.{chartSize, noteSize, columnValues}
+use Rattle.chart.specs.Layout.{chartSizeIn, noteSizeIn, versionNumber, zeroUnit, columnValues}
+use Rattle.chart.specs.declared.Version.{Version}
+use Rattle.chart.specs.declared.Version.the-variants.{One, Two}
 use Rattle.chart.specs.declared.Note.{Note}
 use Rattle.chart.specs.Tests.{every, passes, fails, both}
 use Rattle.chart.specs.Time.{time, isTime, latest}
-use Rattle.chart.specs.Chart.{Score, refused, accepted, reading, readingOf, columnsOf, countOf, decode, drawsOf, headTests, lasts, noteIn, noteOf, notesOf, noteTests, okChart, okHead, okNote, okNotes, okRow, okRows, scoreOf, notesRead, notesIn, blank}
 use Rattle.chart.specs.Order.{rank}
+use Rattle.chart.specs.Chart.{Score, headOf, versionOf, noteBy, refused, accepted, reading, readingOf, columnsOf, countOf, decode, drawsOf, headTests, lasts, noteIn, noteOf, notesOf, noteTests, okChart, okHead, okNote, okNotes, okRow, okRows, scoreOf, notesRead, notesIn, blank}
 use Rattle.floats.specs.Format.{infinity}
 use Rattle.chart.specs.Laws.Times.{time-fits}
 use Rattle.chart.specs.Laws.Notes.{length-notesOf, notes-at}
+
+-- ---- sizes
+
+pub chart-next : (v : Version) (i : ℕ) → chartSizeIn v (i + 1) ≡ chartSizeIn v i + noteSizeIn v
+chart-next One i = omega arith
+chart-next Two i = omega arith
+
+pub chart-room : (v : Version) (i count : ℕ) → i < count → chartSizeIn v i + noteSizeIn v ≤ chartSizeIn v count
+chart-room One i count h = omega arith
+chart-room Two i count h = omega arith
+
+pub chart-none : (v : Version) → chartSizeIn v 0 ≡ 8
+chart-none One = refl
+chart-none Two = refl
+
+-- ---- one test after another
 
 -- the times of a note that may stand in a chart
 pub note-fits : (c l : ℕ) (n : Note) → okNote c l n ≡ true → (n .start < infinity) × (n .duration < infinity)
@@ -47,14 +65,14 @@ pub head-refused : (s : List ℕ) (i : ℕ) → getD (headTests s) i true ≡ fa
 unfolding okHead
 head-refused s i h = sym (fails (headTests s) i h)
 
-pub head-decided : (s : List ℕ) → 8 ≤ length s → getD s 0 0 / 16 ≡ 1 → 1 ≤ columnsOf s → columnsOf s ≤ 9 → eqb (length s) (chartSize (countOf s)) ≡ okHead s
+pub head-decided : (s : List ℕ) → 8 ≤ length s → getD s 0 0 / 16 ≡ versionNumber (versionOf s) → 1 ≤ columnsOf s → columnsOf s ≤ 9 → eqb (length s) (chartSizeIn (versionOf s) (countOf s)) ≡ okHead s
 unfolding okHead headTests every
 head-decided s t0 t1 t2 t3 =
-    rw (le-leb 8 (length s) t0, eq-eqb (getD s 0 0 / 16) 1 t1, le-leb 1 (columnsOf s) t2, le-leb (columnsOf s) 9 t3, and-true (eqb (length s) (chartSize (countOf s))))
+    rw (le-leb 8 (length s) t0, eq-eqb (getD s 0 0 / 16) (versionNumber (versionOf s)) t1, le-leb 1 (columnsOf s) t2, le-leb (columnsOf s) 9 t3, and-true (eqb (length s) (chartSizeIn (versionOf s) (countOf s))))
 
-pub head-size : (s : List ℕ) → okHead s ≡ true → length s ≡ chartSize (countOf s)
+pub head-size : (s : List ℕ) → okHead s ≡ true → length s ≡ chartSizeIn (versionOf s) (countOf s)
 unfolding okHead headTests
-head-size s h = eqb-true (length s) (chartSize (countOf s)) (passes (headTests s) h 4)
+head-size s h = eqb-true (length s) (chartSizeIn (versionOf s) (countOf s)) (passes (headTests s) h 4)
 
 -- ---- the reader's answers
 
@@ -62,41 +80,41 @@ pub refused-head : (s : List ℕ) → okHead s ≡ false → refused Numbers.bro
 unfolding reading readingOf decode okChart
 refused-head s h = rw h
 
-pub refused-rows : (s : List ℕ) → okRows (columnsOf s) 0 (countOf s) (drop 8 s) ≡ false → refused Numbers.brokenChart ≡ reading s
+pub refused-rows : (s : List ℕ) → okRows (versionOf s) (columnsOf s) 0 (countOf s) (drop 8 s) ≡ false → refused Numbers.brokenChart ≡ reading s
 unfolding reading readingOf decode okChart
 refused-rows s h = rw (h, and-false (okHead s))
 
-pub all-pass : (s : List ℕ) → okHead s ≡ true → okRows (columnsOf s) 0 (countOf s) (drop 8 s) ≡ true → accepted (columnsOf s) (countOf s) (drawsOf s) ≡ reading s
+pub all-pass : (s : List ℕ) → okHead s ≡ true → okRows (versionOf s) (columnsOf s) 0 (countOf s) (drop 8 s) ≡ true → accepted (versionOf s) (columnsOf s) (countOf s) (drawsOf s) ≡ reading s
 unfolding reading readingOf decode okChart scoreOf
-all-pass s h k = rw (h, k, length-notesOf (countOf s) (drop 8 s))
+all-pass s h k = rw (h, k, length-notesOf (versionOf s) (countOf s) (drop 8 s))
 
-pub rows-end : (columns last count i : ℕ) (s : List ℕ) → count ≤ i → okRows columns last (count - i) s ≡ true
+pub rows-end : (v : Version) (columns last count i : ℕ) (s : List ℕ) → count ≤ i → okRows v columns last (count - i) s ≡ true
 unfolding okRows
-rows-end columns last count i s h = let e : count - i ≡ 0 = omega arith in rw e
+rows-end v columns last count i s h = let e : count - i ≡ 0 = omega arith in rw e
 
 -- ---- the rows from the i-th on
 
-module _ (columns last count i : ℕ) (s : List ℕ) (more : i < count) where
-  from-row : okRows columns last (count - i) (drop (chartSize i) s)
-      ≡ okRow columns last (drop (chartSize i) s) && okRows columns (rank (noteOf (drop (chartSize i) s))) (count - (i + 1)) (drop (chartSize (i + 1)) s)
+module _ (v : Version) (columns last count i : ℕ) (s : List ℕ) (more : i < count) where
+  from-row : okRows v columns last (count - i) (drop (chartSizeIn v i) s)
+      ≡ okRow v columns last (drop (chartSizeIn v i) s) && okRows v columns (rank (noteOf v (drop (chartSizeIn v i) s))) (count - (i + 1)) (drop (chartSizeIn v (i + 1)) s)
   unfolding okRows
   from-row =
       let one : count - i ≡ suc (count - (i + 1)) = omega arith in
-      let next : chartSize (i + 1) ≡ chartSize i + noteSize = omega arith in
-      rw (one, next, ← drop-drop noteSize (chartSize i) s)
+      let next : chartSizeIn v (i + 1) ≡ chartSizeIn v i + noteSizeIn v = chart-next v i in
+      rw (one, next, ← drop-drop (noteSizeIn v) (chartSizeIn v i) s)
 
-  pub row-next : getD s (chartSize i) 0 % 8 ≡ 0 → okNote columns last (noteOf (drop (chartSize i) s)) ≡ true
-      → okRows columns last (count - i) (drop (chartSize i) s) ≡ okRows columns (rank (noteOf (drop (chartSize i) s))) (count - (i + 1)) (drop (chartSize (i + 1)) s)
+  pub row-next : headOf v (drop (chartSizeIn v i) s) % zeroUnit v ≡ 0 → okNote columns last (noteOf v (drop (chartSizeIn v i) s)) ≡ true
+      → okRows v columns last (count - i) (drop (chartSizeIn v i) s) ≡ okRows v columns (rank (noteOf v (drop (chartSizeIn v i) s))) (count - (i + 1)) (drop (chartSizeIn v (i + 1)) s)
   unfolding okRow
-  row-next z ok = from-row ∙ rw (getD-drop (chartSize i) s 0 0, add-zero (chartSize i), z, ok)
+  row-next z ok = from-row ∙ rw (z, ok)
 
-  pub row-zeros : (getD s (chartSize i) 0 % 8 ≡ 0 → ⊥) → okRows columns last (count - i) (drop (chartSize i) s) ≡ false
+  pub row-zeros : (headOf v (drop (chartSizeIn v i) s) % zeroUnit v ≡ 0 → ⊥) → okRows v columns last (count - i) (drop (chartSizeIn v i) s) ≡ false
   unfolding okRow
-  row-zeros z = from-row ∙ rw (getD-drop (chartSize i) s 0 0, add-zero (chartSize i), ne-eqb (getD s (chartSize i) 0 % 8) 0 z)
+  row-zeros z = from-row ∙ rw (ne-eqb (headOf v (drop (chartSizeIn v i) s) % zeroUnit v) 0 z)
 
-  pub row-note : okNote columns last (noteOf (drop (chartSize i) s)) ≡ false → okRows columns last (count - i) (drop (chartSize i) s) ≡ false
+  pub row-note : okNote columns last (noteOf v (drop (chartSizeIn v i) s)) ≡ false → okRows v columns last (count - i) (drop (chartSizeIn v i) s) ≡ false
   unfolding okRow
-  row-note bad = from-row ∙ rw (bad, and-false (eqb (getD (drop (chartSize i) s) 0 0 % 8) 0))
+  row-note bad = from-row ∙ rw (bad, and-false (eqb (headOf v (drop (chartSizeIn v i) s) % zeroUnit v) 0))
 
 -- ---- what an accepted chart has
 
@@ -108,13 +126,13 @@ read-score s c e = by-test (okChart s) refl
     by-test true ok = (ok, Option·some-injective (scoreOf s) c (rw ok at e))
     by-test false bad = absurd (let z : _≡_ {A = Option Score} none (some c) = rw bad at e in let y : _≡_ {A = ℕ} 0 1 = cc in omega arith)
 
-rows-notes : (c l k : ℕ) (s : List ℕ) → okRows c l k s ≡ true → okNotes c l (notesOf k s) ≡ true
+rows-notes : (v : Version) (c l k : ℕ) (s : List ℕ) → okRows v c l k s ≡ true → okNotes c l (notesOf v k s) ≡ true
 unfolding okRows okRow okNotes notesOf
-rows-notes c l zero s ok = refl
-rows-notes c l (suc k) s ok =
-    let here = both (okRow c l s) (okRows c (rank (noteOf s)) k (drop noteSize s)) ok in
-    let row = both (eqb (getD s 0 0 % 8) 0) (okNote c l (noteOf s)) (here .0) in
-    rw (row .1) (rows-notes c (rank (noteOf s)) k (drop noteSize s) (here .1))
+rows-notes v c l zero s ok = refl
+rows-notes v c l (suc k) s ok =
+    let here = both (okRow v c l s) (okRows v c (rank (noteOf v s)) k (drop (noteSizeIn v) s)) ok in
+    let row = both (eqb (headOf v s % zeroUnit v) 0) (okNote c l (noteOf v s)) (here .0) in
+    rw (row .1) (rows-notes v c (rank (noteOf v s)) k (drop (noteSizeIn v) s) (here .1))
 
 -- it has few columns
 pub columns-few : (s : List ℕ) (c : Score) → decode s ≡ some c → c .columns < columnValues
@@ -126,18 +144,36 @@ pub notes-ok : (s : List ℕ) (c : Score) → decode s ≡ some c → okNotes (c
 unfolding okChart scoreOf
 notes-ok s c e =
     let k = read-score s c e in
-    rw (← (k .1)) (rows-notes (columnsOf s) 0 (countOf s) (drop 8 s) (both (okHead s) (okRows (columnsOf s) 0 (countOf s) (drop 8 s)) (k .0) .1))
+    rw (← (k .1)) (rows-notes (versionOf s) (columnsOf s) 0 (countOf s) (drop 8 s) (both (okHead s) (okRows (versionOf s) (columnsOf s) 0 (countOf s) (drop 8 s)) (k .0) .1))
 
 -- and each is found at its index
 pub note-read : (s : List ℕ) (c : Score) → decode s ≡ some c → (i : ℕ) (d : Note) → i < length (c .notes) → noteIn s i ≡ some (getD (c .notes) i d)
-unfolding noteIn okChart scoreOf
+unfolding noteBy okChart scoreOf
 note-read s c e i d l =
     let k = read-score s c e in
-    let notes : notesOf (countOf s) (drop 8 s) ≡ c .notes = ap (λ (t : Score). t .notes) (k .1) in
-    let below : i < countOf s = omega (arith, ap (λ (t : List Note). length t) notes, length-notesOf (countOf s) (drop 8 s)) in
-    let size = head-size s (both (okHead s) (okRows (columnsOf s) 0 (countOf s) (drop 8 s)) (k .0) .0) in
-    let room : chartSize i + noteSize ≤ length s = omega arith in
-    rw (le-leb (chartSize i + noteSize) (length s) room, ← notes, notes-at (countOf s) (drop 8 s) i d below, drop-drop (noteSize * i) 8 s)
+    let notes : notesOf (versionOf s) (countOf s) (drop 8 s) ≡ c .notes = ap (λ (t : Score). t .notes) (k .1) in
+    let below : i < countOf s = omega (arith, ap (λ (t : List Note). length t) notes, length-notesOf (versionOf s) (countOf s) (drop 8 s)) in
+    let size = head-size s (both (okHead s) (okRows (versionOf s) (columnsOf s) 0 (countOf s) (drop 8 s)) (k .0) .0) in
+    let v : Version = versionOf s in
+    let room : chartSizeIn v i + noteSizeIn v ≤ length s = rw size (chart-room v i (countOf s) below) in
+    rw (le-leb (chartSizeIn v i + noteSizeIn v) (length s) room, ← notes, notes-at v (countOf s) (drop 8 s) i d below, drop-drop (noteSizeIn v * i) 8 s)
+
+-- a chart has as many bytes as its notes take
+pub read-size : (s : List ℕ) (c : Score) → decode s ≡ some c → length s ≡ chartSizeIn (c .version) (length (c .notes))
+unfolding okChart scoreOf
+read-size s c e =
+    let k = read-score s c e in
+    let size = head-size s (both (okHead s) (okRows (versionOf s) (columnsOf s) 0 (countOf s) (drop 8 s)) (k .0) .0) in
+    rw (← (k .1), length-notesOf (versionOf s) (countOf s) (drop 8 s)) size
+
+-- of fewer bytes than a header none is found
+pub note-short : (s : List ℕ) (i : ℕ) → length s < 8 → none ≡ noteIn s i
+unfolding noteBy
+note-short s i h = rw (lt-leb (chartSizeIn (versionOf s) i + noteSizeIn (versionOf s)) (length s) (past (versionOf s)))
+  where
+    past : (v : Version) → length s < chartSizeIn v i + noteSizeIn v
+    past One = omega arith
+    past Two = omega arith
 
 -- the times of each of its notes
 pub notes-times : (c l : ℕ) (ns : List Note) → okNotes c l ns ≡ true → (i : ℕ) (d : Note) → i < length ns → (getD ns i d .start < infinity) × (getD ns i d .duration < infinity)
@@ -147,11 +183,11 @@ notes-times c l (n ∷ ns) ok zero d h = note-fits c l n (both (okNote c l n) (o
 notes-times c l (n ∷ ns) ok (suc i) d h = notes-times c (rank n) ns (both (okNote c l n) (okNotes c (rank n) ns) ok .1) i d (omega arith)
 
 -- the reader's numbers are those of the chart
-pub accepted-score : (o : Option Score) (columns notes draws : ℕ) → accepted columns notes draws ≡ readingOf o
+pub accepted-score : (o : Option Score) (v : Version) (columns notes draws : ℕ) → accepted v columns notes draws ≡ readingOf o
     → (c : Score) × ((o ≡ some c) × ((c .columns ≡ columns) × (length (c .notes) ≡ notes)))
 unfolding readingOf
-accepted-score none columns notes draws e = absurd (let y : _≡_ {A = ℕ} 0 1 = cc in omega arith)
-accepted-score (some c) columns notes draws e = (c, (refl, (cc, cc)))
+accepted-score none v columns notes draws e = absurd (let y : _≡_ {A = ℕ} 0 1 = cc in omega arith)
+accepted-score (some c) v columns notes draws e = (c, (refl, (cc, cc)))
 
 pub refused-none : (o : Option Score) (n : ℕ) → refused n ≡ readingOf o → o ≡ none
 unfolding readingOf

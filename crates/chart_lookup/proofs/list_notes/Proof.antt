@@ -19,10 +19,10 @@ read-requires c κs = search needs
 enum-known-notes : tie.Need-enum-known-notes
 enum-known-notes c = search needs
 
-knows : (c : tie.After-notes) → (c .notes .given .0 .1 .0 ≡ length (notesIn (c .before .before .before .before .before .args .chart .now)))
+knows : (c : tie.After-notes) → (c .notes .given .0 .1 .1 .0 ≡ length (notesIn (c .before .before .before .before .before .args .chart .now)))
     × ((w : Wanted) (list : List ℕ) → listed w (notesIn (c .before .before .before .before .before .args .chart .now)) list ≡ looked (decode (c .before .before .before .before .before .args .chart .now)) w list)
 unfolding reading
-knows c = read-notes _ _ _ _ (sym (ap meaning (c .notes .given .1)) ∙ c .before .before .read .ensures)
+knows c = read-notes _ _ _ _ _ (sym (ap meaning (c .notes .given .1)) ∙ c .before .before .read .ensures)
 
 list-read-requires : tie.Need-list-read-requires
 list-read-requires c κs = knows (c .before .before) .0

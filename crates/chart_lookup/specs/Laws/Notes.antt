@@ -12,6 +12,7 @@ use lib.ListN.{length, getD}
 use borrow.Author.Tests.{leb-true, ltb-true}
 use Rattle.chart.specs.Layout.{columnValues}
 use Rattle.chart.specs.Order.{rank}
+use Rattle.chart.specs.declared.Version.{Version}
 use Rattle.chart.specs.declared.Note.{Note}
 use Rattle.chart.specs.Tests.{both, passes}
 use Rattle.chart.specs.Chart.{Score, accepted, readingOf, decode, noteIn, okNote, okNotes, noteTests, notesRead, notesIn, blank}
@@ -63,14 +64,14 @@ module _ (s : List ℕ) where
 
 -- ---- what the reader's answer says
 
-pub read-notes : (o : Option Score) (columns notes draws : ℕ) → accepted columns notes draws ≡ readingOf o
+pub read-notes : (o : Option Score) (v : Version) (columns notes draws : ℕ) → accepted v columns notes draws ≡ readingOf o
     → (notes ≡ length (notesRead o)) × ((w : Wanted) (list : List ℕ) → listed w (notesRead o) list ≡ looked o w list)
 unfolding readingOf notesRead looked
-read-notes none columns notes draws e = absurd (let y : _≡_ {A = ℕ} 0 1 = cc in omega arith)
-read-notes (some c) columns notes draws e = (cc, λ w list. refl)
+read-notes none v columns notes draws e = absurd (let y : _≡_ {A = ℕ} 0 1 = cc in omega arith)
+read-notes (some c) v columns notes draws e = (cc, λ w list. refl)
 
-pub read-columns : (o : Option Score) (columns notes draws : ℕ) → accepted columns notes draws ≡ readingOf o
+pub read-columns : (o : Option Score) (v : Version) (columns notes draws : ℕ) → accepted v columns notes draws ≡ readingOf o
     → (notes ≡ length (notesRead o)) × ((column : ℕ) (t : Float) → seeking columns (notesRead o) column t ≡ soughtIn o column t)
 unfolding readingOf notesRead soughtIn
-read-columns none columns notes draws e = absurd (let y : _≡_ {A = ℕ} 0 1 = cc in omega arith)
-read-columns (some c) columns notes draws e = (cc, λ column t. let same : columns ≡ c .columns = cc in rw same)
+read-columns none v columns notes draws e = absurd (let y : _≡_ {A = ℕ} 0 1 = cc in omega arith)
+read-columns (some c) v columns notes draws e = (cc, λ column t. let same : columns ≡ c .columns = cc in rw same)

@@ -1,8 +1,9 @@
 -- `chart_reader::may_stand` meets its contract. Each early return names the test that fails (`note-refused`); where all but the last pass, that one decides (`note-decided`).
 -- Assumes nothing.
 use borrow.Author.Needs.{needs}
-use mathlib.Core.Path.{sym, _∙_}
-use Prim.Native.Nat.{_≤_}
+use mathlib.Core.Path.{_≡_, sym, _∙_}
+use mathlib.Core.Bool.{true}
+use lib.Dec.{leb}
 use borrow.Author.Tests.{le-ltb, lt-leb, lt-ltb, le-leb, ltb-true, ltb-false, not-true, not-false}
 use Rattle.chart.specs.Order.{rank}
 use Rattle.chart.specs.Laws.Times.{time-above, time-below}
@@ -44,11 +45,13 @@ within-requires c κs = search needs
 
 returns-6 : tie.Need-returns-6
 returns-6 c =
-    let a = c .before .before .before .before .before .before .before .before .before .before .before .args in
-    let low : rank (a .last) ≤ rank (a .n) = ltb-false (rank (a .n)) (rank (a .last)) (sym (c .before .before .before .before .precedes .ensures) ∙ c .before .before .before .if4 .left) in
+    let p = c .before .before .before .before in
+    let a = p .before .before .before .before .before .before .before .args in
+    let ordered : leb (rank (a .last)) (rank (a .n)) ≡ true =
+    le-leb (rank (a .last)) (rank (a .n)) (ltb-false (rank (a .n)) (rank (a .last)) (sym (p .precedes .ensures) ∙ c .before .before .before .if4 .left)) in
     c .within .ensures
-    ∙ note-decided (a .columns) (rank (a .last)) (a .n) (lt-ltb (a .n .column) (a .columns) (search needs)) (time-below (a .n .start) (search needs)) (time-below (a .n .duration) (search needs))
-    (le-leb (rank (a .last)) (rank (a .n)) low) (sym (c .before .before .lasting .ensures) ∙ not-false _ (c .before .if5 .left))
+    ∙ note-decided (a .columns) (rank (a .last)) (a .n) (lt-ltb (a .n .column) (a .columns) (search needs)) (time-below (a .n .start) (search needs)) (time-below (a .n .duration) (search needs)) ordered
+    (sym (c .before .before .lasting .ensures) ∙ not-false _ (c .before .if5 .left))
 
 pub may-stand-spec : {M : Type 1} → statement M
 may-stand-spec =

@@ -1,6 +1,5 @@
 -- `chart_reader::note_of` meets its contract: the note of that place is there.
 -- Assumes nothing.
-use borrow.Author.Needs.{needs}
 use mathlib.Core.Path.{_≡_, sym, ap, _∙_}
 use mathlib.Core.Option.{Option, none, some, Option·some-injective}
 use Prim.Native.Nat.{ℕ}
@@ -8,6 +7,7 @@ use native.Mathlib.Omega.{arith}
 use Rattle.chart.specs.declared.Note.{Note}
 use Rattle.chart.specs.Chart.{found}
 use Rattle.chart.specs.Laws.Reader.{note-known}
+use borrow.Author.Needs.{needs}
 use Rattle.chart_reader.proofs.note_of.Statement.{statement}
 use Rattle.chart_reader.proofs.note_of.Tie as tie
 

@@ -24,11 +24,8 @@ put-head-line-requires c κs =
     let read = arm .before .before in
     let s = read .before .before .before .args .chart .now in
     let n = arm .columns .given .0 in
-    let is = read-text s (n .0) (n .1 .0) (n .1 .1 .0) (sym (read .read .ensures) ∙ ap meaning (arm .columns .given .1)) in
-    omega (arith, is .0, read .before .before .before .pre)
-
-cast-put-note-lines : tie.Need-cast-put-note-lines
-cast-put-note-lines c = search needs
+    let is = read-text s (n .0) (n .1 .0) (n .1 .1 .0) (n .1 .1 .1 .0) (sym (read .read .ensures) ∙ ap meaning (arm .columns .given .1)) in
+    omega (arith, is .size, read .before .before .before .pre)
 
 put-note-lines-requires : tie.Need-put-note-lines-requires
 put-note-lines-requires c κs =
@@ -37,8 +34,8 @@ put-note-lines-requires c κs =
     let read = arm .before .before in
     let s = read .before .before .before .args .chart .now in
     let n = arm .columns .given .0 in
-    let is = read-text s (n .0) (n .1 .0) (n .1 .1 .0) (sym (read .read .ensures) ∙ ap meaning (arm .columns .given .1)) in
-    (omega (arith, is .0), omega (arith, is .0, read .before .before .before .pre, head .put-head-line .ensures .0 .1, head .put-head-line .kept .0))
+    let is = read-text s (n .0) (n .1 .0) (n .1 .1 .0) (n .1 .1 .1 .0) (sym (read .read .ensures) ∙ ap meaning (arm .columns .given .1)) in
+    (is .number, omega (arith, is .size, read .before .before .before .pre, head .put-head-line .ensures .0 .1, head .put-head-line .kept .0))
 
 enum-told : tie.Need-enum-told
 enum-told c = search needs
@@ -54,11 +51,11 @@ returns c =
     let read = arm .before .before in
     let s = read .before .before .before .args .chart .now in
     let n = arm .columns .given .0 in
-    let is = read-text s (n .0) (n .1 .0) (n .1 .1 .0) (sym (read .read .ensures) ∙ ap meaning (arm .columns .given .1)) in
+    let is = read-text s (n .0) (n .1 .0) (n .1 .1 .0) (n .1 .1 .1 .0) (sym (read .read .ensures) ∙ ap meaning (arm .columns .given .1)) in
     let fits : notes .put-note-lines .result ≤ length (read .before .before .before .args .s .now) =
-    omega (arith, is .0, read .before .before .before .pre, head .put-head-line .ensures .0 .1, notes .put-note-lines .ensures .0 .1) in
+    omega (arith, is .size, read .before .before .before .pre, head .put-head-line .ensures .0 .1, notes .put-note-lines .ensures .0 .1) in
     let lines = wrote-next _ (wrote-first _ (head .put-head-line .ensures .1) (head .put-head-line .ensures .0 .0)) (notes .put-note-lines .ensures .1) (notes .put-note-lines .ensures .0 .0) fits in
-    rw (is .1) ((lines .next ∙ zero-add _, fits), lines .bytes)
+    rw (is .is) ((lines .next ∙ zero-add _, fits), lines .bytes)
 
 returns-2 : tie.Need-returns-2
 returns-2 c =
@@ -73,7 +70,6 @@ put-chart-spec =
     read-requires
     enum-known-columns
     put-head-line-requires
-    cast-put-note-lines
     put-note-lines-requires
     enum-told
     same-length

@@ -6,6 +6,7 @@ use Prim.Native.Nat.{ℕ, _≤_}
 use native.Mathlib.Nat.{zero-add}
 use native.Mathlib.Omega.{arith}
 use lib.ListN.{length, drop}
+use Rattle.chart.specs.declared.Version.the-variants.{Two}
 use Rattle.chart.specs.declared.Note.{Note}
 use Rattle.chart.specs.Bytes.{splice}
 use Rattle.chart.specs.Chart.{header, notesOf, Holds}
@@ -21,8 +22,8 @@ put-header-requires : tie.Need-put-header-requires
 put-header-requires c κs = search needs
 
 -- the header's bytes stand before the notes
-behind : (s : List ℕ) (columns notes draws : ℕ) → 8 ≤ length s → drop 8 (splice s 0 (header columns notes draws)) ≡ drop 8 s
-behind s columns notes draws room = drop-splice s 0 (header columns notes draws) 8 (omega arith) (omega (arith, length-header columns notes draws))
+behind : (s : List ℕ) (columns notes draws : ℕ) → 8 ≤ length s → drop 8 (splice s 0 (header Two columns notes draws)) ≡ drop 8 s
+behind s columns notes draws room = drop-splice s 0 (header Two columns notes draws) 8 (omega arith) (omega (arith, length-header Two columns notes draws))
 
 arrange-requires : tie.Need-arrange-requires
 unfolding Holds
@@ -44,9 +45,9 @@ returns : tie.Need-returns
 returns c =
     let a = c .before .before .before .before .before .before .before .before .before .args in
     let s = a .chart .now in
-    let ns : List Note = arranged [] (notesOf (a .notes) (drop 8 s)) in
-    let size : length ns ≡ a .notes = length-arranged [] (notesOf (a .notes) (drop 8 s)) ∙ zero-add (length (notesOf (a .notes) (drop 8 s))) ∙ length-notesOf (a .notes) (drop 8 s) in
-    let whole = encode-put s (a .columns) (a .draws) ns (rw size (search needs)) in
+    let ns : List Note = arranged [] (notesOf Two (a .notes) (drop 8 s)) in
+    let size : length ns ≡ a .notes = length-arranged [] (notesOf Two (a .notes) (drop 8 s)) ∙ zero-add (length (notesOf Two (a .notes) (drop 8 s))) ∙ length-notesOf Two (a .notes) (drop 8 s) in
+    let whole = encode-put Two s (a .columns) (a .draws) ns (rw size (search needs)) in
     (refl, c .before .before .arrange .ensures ∙ rw (c .before .before .before .before .before .before .put-header .ensures, behind s (a .columns) (a .notes) (a .draws) (search needs)) (rw size at whole))
 
 pub finish-spec : {M : Type 1} → statement M

@@ -104,9 +104,9 @@ module _ (f : Facts) (v : PrevValues) (columns : ℕ) (o : Object) (r : Random) 
     -- it made its notes
     pub single-made : (m : Made) (e : Draws) → on (object f v columns o) lent ≡ found m e → ltb (length buffer) (noteSize * length (m .notes)) ≡ false
         → singleObject f v columns o r a buffer
-        ≡ record { answer = made (length (m .notes)) (m .mask) (m .last) (m .stair) (e .random) (a - e .tally .left); notes = written (body (m .notes)) buffer }
+        ≡ record { answer = made (length (m .notes)) (m .mask) (m .last) (m .stair) (e .random) (a - e .tally .left); notes = written (body 0 (m .notes)) buffer }
     unfolding withRoom play ending
     single-made m e h l =
         let k : on roomy lent ≡ found m e = found-bind (object f v columns o) _ lent m e h ∙ rw l in
         by-rule ∙ ap (ending r buffer) (found-run (λ p. spentNumber) number roomy lent m e k .0)
-        ∙ ap (λ (s : Random). record { answer = made (length (m .notes)) (m .mask) (m .last) (m .stair) s (a - e .tally .left); notes = written (body (m .notes)) buffer }) (sym (stepped roomy lent m e k))
+        ∙ ap (λ (s : Random). record { answer = made (length (m .notes)) (m .mask) (m .last) (m .stair) s (a - e .tally .left); notes = written (body 0 (m .notes)) buffer }) (sym (stepped roomy lent m e k))

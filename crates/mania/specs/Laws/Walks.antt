@@ -3,10 +3,11 @@
 use mathlib.Core.Path.{_≡_, refl, sym, ap, ap₂, _∙_}
 use Prim.Native.Nat.{ℕ, suc, _+_, _-_, _*_}
 use native.Mathlib.Nat.{zero-add, zero-max}
+use native.Mathlib.Omega.{arith}
 use mathlib.Core.Bool.{Bool, true, false}
-use mathlib.Core.List.{List, [], _∷_, _++_, append-assoc, append-nil}
+use mathlib.Core.List.{List, [], _∷_, _++_, map, append-assoc, append-nil}
 use lib.Dec.{ltb}
-use lib.ListN.{length}
+use lib.ListN.{length, length-append, length-map}
 use Rattle.rules.specs.Numbers as Numbers
 use Rattle.rules.specs.Rule.{give, label, _>>=_, ended}
 use Rattle.rules.specs.Refusal.{number, spentNumber, ObjectRule}
@@ -26,7 +27,8 @@ use Rattle.mania.specs.declared.Facts.{Facts}
 use Rattle.mania.specs.Made.{Made}
 use Rattle.mania.specs.LimitedQueue.{Density}
 use Rattle.mania.specs.Object.{object}
-use Rattle.mania.specs.Chart.{written}
+use Rattle.chart.specs.declared.Note as Patterns
+use Rattle.mania.specs.Chart.{patternOf, patternsFrom, inWalkOrder, written}
 use Rattle.mania.specs.Convert.{Walk, SongFacts, at, seed, columnsOf, meets, factsAt, afterObject, objectIn, walk, convert}
 use Rattle.mania.specs.Walked.{Stop, stop, spentAt, refusedAt, onWalk}
 use Rattle.mania.specs.Job.{Job, ending, refusing, under, ledgerUnder, job}
@@ -132,3 +134,22 @@ module _ (s : Song) (buffer : List ℕ) (a : ℕ) where
 pub splice-start : (s v : List ℕ) → splice s 0 v ≡ written v s
 unfolding splice written
 splice-start s v = rw zero-add
+
+-- ---- the notes of a chart in walk order
+
+pub length-patterns : (i : ℕ) (nss : List (List Note)) → length (patternsFrom i nss) ≡ length (inWalkOrder nss)
+unfolding patternsFrom inWalkOrder
+length-patterns i [] = refl
+length-patterns i (ns ∷ nss) =
+    length-append (map (patternOf i) ns) (patternsFrom (suc i) nss)
+    ∙ ap₂ (λ (a b : ℕ). a + b) (length-map ns (patternOf i)) (length-patterns (suc i) nss)
+    ∙ sym (length-append ns (inWalkOrder nss))
+
+-- those of one object more
+pub patterns-more : (i : ℕ) (nss : List (List Note)) (ns : List Note) → patternsFrom i (nss ++ ns ∷ []) ≡ patternsFrom i nss ++ map (patternOf (i + length nss)) ns
+unfolding patternsFrom
+patterns-more i [] ns = append-nil (map (patternOf i) ns) ∙ ap (λ (k : ℕ). map (patternOf k) ns) (omega arith)
+patterns-more i (ms ∷ nss) ns =
+    let next : suc i + length nss ≡ i + suc (length nss) = omega arith in
+    ap (λ (t : List Patterns.Note). map (patternOf i) ms ++ t) (patterns-more (suc i) nss ns ∙ rw next)
+    ∙ sym (append-assoc (map (patternOf i) ms) (patternsFrom (suc i) nss) (map (patternOf (i + suc (length nss))) ns))

@@ -8,16 +8,16 @@ use Rattle.notes.proofs.put_in_columns.Statement.{statement}
 use Rattle.notes.proofs.put_in_columns.Tie as tie
 
 abbrev Inv-loop : tie.InvT-loop
-Inv-loop words count s₀ at p i₀ s i = Wrote (rowIn p) words count s₀ at s i
+Inv-loop index words count s₀ at p i₀ s i = Wrote (rowIn index p) words count s₀ at s i
 
 abbrev μ-loop : tie.MeasureT-loop
-μ-loop words count s₀ at p i₀ s i = count - i
+μ-loop index words count s₀ at p i₀ s i = count - i
 
 pattern-of-requires : tie.Need-pattern-of-requires Inv-loop μ-loop
 pattern-of-requires c κs = tt
 
 loop-holds : tie.Need-loop-holds Inv-loop μ-loop
-loop-holds c = none-yet _ _ _ _ _ (omega arith)
+loop-holds c = none-yet _ _ _ _ _ (omega arith) (omega arith)
 
 mul-column-of : tie.Need-mul-column-of Inv-loop μ-loop
 mul-column-of c = omega arith
@@ -41,7 +41,7 @@ add-put-note : tie.Need-add-put-note Inv-loop μ-loop
 add-put-note c = omega arith
 
 put-note-requires : tie.Need-put-note-requires Inv-loop μ-loop
-put-note-requires c κs = (omega arith, omega arith)
+put-note-requires c κs = (omega arith, omega arith, omega arith)
 
 add-i : tie.Need-add-i Inv-loop μ-loop
 add-i c = omega arith
@@ -55,7 +55,7 @@ loop-again c =
     let row = put .before .before in
     let word = row .before .before in
     let loop = word .before .before .before .loop in
-    put-next _ _ _ _ _ _ _ (loop .inv) (omega arith) (omega arith) (omega arith) (rw (word .column-of .ensures, row .before .pinned .ensures, row .pinned2 .ensures)) (put .put-note .ensures)
+    put-next _ _ _ _ _ _ _ (loop .inv) (omega arith) (rw (word .column-of .ensures, row .before .pinned .ensures, row .pinned2 .ensures)) (put .put-note .ensures)
 
 same-length : tie.Need-same-length Inv-loop μ-loop
 same-length c = omega arith
@@ -64,7 +64,7 @@ returns : tie.Need-returns Inv-loop μ-loop
 returns c =
     let loop = c .before in
     let begin = loop .before in
-    all-written _ _ _ _ _ _ _ _ (loop .loop .inv) (c .loop-test .left) (ap rowIn (begin .pattern-of .ensures) ∙ row-is _)
+    all-written _ _ _ _ _ _ _ _ _ (loop .loop .inv) (c .loop-test .left) (ap (rowIn _) (begin .pattern-of .ensures) ∙ row-is _ _)
 
 pub put-in-columns-spec : {M : Type 1} → statement M
 put-in-columns-spec =

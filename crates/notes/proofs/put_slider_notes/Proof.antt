@@ -5,23 +5,23 @@ use native.Mathlib.Omega.{arith}
 use Rattle.chart.specs.declared.Note as Patterns
 use Rattle.mania.specs.Chart.{patternOf}
 use Rattle.slider_notes.specs.Words.{noteOfWord}
-use Rattle.notes.proofs.Columns.{slider-narrow}
+use Rattle.notes.proofs.Columns.{slider-narrow, told-below}
 use Rattle.notes.proofs.Written.{Wrote, none-yet, put-next, all-written}
 use Rattle.notes.proofs.put_slider_notes.Statement.{statement}
 use Rattle.notes.proofs.put_slider_notes.Tie as tie
 
 -- the row of a word
-abbrev row : ℕ → Patterns.Note
-row w = patternOf (noteOfWord w)
+abbrev row : ℕ → ℕ → Patterns.Note
+row i w = patternOf i (noteOfWord w)
 
 abbrev Inv-loop : tie.InvT-loop
-Inv-loop words count s₀ at i₀ s i = Wrote row words count s₀ at s i
+Inv-loop index words count s₀ at i₀ s i = Wrote (row index) words count s₀ at s i
 
 abbrev μ-loop : tie.MeasureT-loop
-μ-loop words count s₀ at i₀ s i = count - i
+μ-loop index words count s₀ at i₀ s i = count - i
 
 loop-holds : tie.Need-loop-holds Inv-loop μ-loop
-loop-holds c = none-yet row _ _ _ _ (omega arith)
+loop-holds c = none-yet _ _ _ _ _ (omega arith) (omega arith)
 
 mul-note-of : tie.Need-mul-note-of Inv-loop μ-loop
 mul-note-of c = omega arith
@@ -44,7 +44,7 @@ add-put-note c = omega arith
 put-note-requires : tie.Need-put-note-requires Inv-loop μ-loop
 put-note-requires c κs =
     let made = c .before in
-    (rw (made .pattern-of .ensures, made .before .note-of .ensures) (slider-narrow _), omega arith)
+    (rw (made .pattern-of .ensures, made .before .note-of .ensures) (slider-narrow _ _), rw (made .pattern-of .ensures) (told-below _ _ (omega arith)), omega arith)
 
 add-i : tie.Need-add-i Inv-loop μ-loop
 add-i c = omega arith
@@ -57,13 +57,13 @@ loop-again c =
     let put = c .before .before in
     let made = put .before .before in
     let loop = made .before .before .before .before .loop in
-    put-next row _ _ _ _ _ _ (loop .inv) (omega arith) (omega arith) (omega arith) (rw (made .pattern-of .ensures, made .before .note-of .ensures)) (put .put-note .ensures)
+    put-next _ _ _ _ _ _ _ (loop .inv) (omega arith) (rw (made .pattern-of .ensures, made .before .note-of .ensures)) (put .put-note .ensures)
 
 same-length : tie.Need-same-length Inv-loop μ-loop
 same-length c = omega arith
 
 returns : tie.Need-returns Inv-loop μ-loop
-returns c = all-written row _ noteOfWord _ _ _ _ _ (c .before .loop .inv) (c .loop-test .left) refl
+returns c = all-written _ _ _ noteOfWord _ _ _ _ _ (c .before .loop .inv) (c .loop-test .left) refl
 
 pub put-slider-notes-spec : {M : Type 1} → statement M
 put-slider-notes-spec =

@@ -31,7 +31,7 @@ finish-requires c κs =
     let k = c .before .before in
     let s = k .before .before .before .before .before .before .before .before .before .before .before .before .before .before .before .before .before in
     let on-deck = subst (OnDeck (s .args .g .columns)) (k .before .p .given .1) (deck k) in
-    (k .before .before .before .before .before .before .before .before .before .before .before .before .meet .ensures .held, on-deck .0, omega (arith, s .pre .5), s .pre .4)
+    (s .pre .0, k .before .before .before .before .before .before .before .before .before .before .before .before .meet .ensures .held, on-deck .0, omega (arith, s .pre .6), s .pre .5)
 
 enum-known-n : tie.Need-enum-known-n
 enum-known-n c = search needs
@@ -53,8 +53,8 @@ returns c =
     let n = k .before .before .before .before .before .before .before .generate in
     let v = k .before .p .given in
     let words = n .last .1 .1 .1 .1 .0 in
-    let size : mostNotes ≤ length words = omega (arith, s .pre .5) in
-    finished (s .args .chart .now) (c .before .before .finish .last .0) words (s .args .g) (s .args .c) (s .args .w) (s .args .o) (s .args .d) (v .0 .1 .1 .0) (m .result)
+    let size : mostNotes ≤ length words = omega (arith, s .pre .6) in
+    finished (s .args .chart .now) (c .before .before .finish .last .0) words (s .args .index) (s .args .g) (s .args .c) (s .args .w) (s .args .o) (s .args .d) (v .0 .1 .1 .0) (m .result)
     (v .0 .0) (v .0 .1 .0) (m .ensures) size (subst (OnDeck (s .args .g .columns)) (v .1) (deck k))
     (ap (objectEnd (noteAt (s .args .o)) words) (sym (v .1)) ∙ n .ensures .says) (c .before .before .finish .result) (c .before .before .finish .ensures)
 

@@ -14,7 +14,7 @@ same-length c = search needs
 returns : tie.Need-returns
 returns c =
     let k = c .before .before .before .before in
-    (twice _ _ _ _ _ _ _ _ _ (k .keep .result .fits) (k .keep .ensures), refl, refl)
+    (twice _ _ _ _ _ _ _ _ _ _ (k .keep .result .fits) (k .keep .ensures), refl, refl)
 
 pub finish-spec : {M : Type 1} → statement M
 finish-spec = tie.close (tie.spec keep-requires same-length returns)

@@ -25,6 +25,9 @@ returns c =
     let a = c .before .before .before .before .args in
     lt-ltb (length (a .chart .now)) (chartSize (a .w .notes + a .p .count)) (omega arith)
 
+cast-put-notes : tie.Need-cast-put-notes
+cast-put-notes c = omega arith
+
 mul-put-notes : tie.Need-mul-put-notes
 mul-put-notes c = search needs
 
@@ -58,6 +61,7 @@ keep-spec =
     mul-if1
     add-if1-2
     returns
+    cast-put-notes
     mul-put-notes
     add-put-notes
     put-notes-requires

@@ -61,6 +61,7 @@ convert-object-requires c κs =
     let l = r .before .before .loop in
     let s = r .before .before .before .before .before .before .before .before .before .before in
     let a = s .args in (
+      omega (arith, s .pre .3),
       s .pre .0 .low,
       s .pre .0 .high,
       l .inv .0 .sound,
@@ -81,13 +82,13 @@ same-length-3 c = c .before .before .before .before .before .before .before .bef
 
 -- what the object's step says, by whether it was refused
 stepped : (k : tie.After-convert-object Inv-loop μ-loop) (b : Bool) → k .convert-object .result .refused ≡ b
-    → StepsBy (k .before .before .before .before .before .before .before .before .loop .chart) (k .convert-object .last .0) (k .before .before .before .before .before .before .before .before .before .before .before .before .before .before .before .before .args .g) (k .before .before .before .before .in-force-at .result) (k .before .before .before .before .before .before .before .before .loop .w) (readObject (k .before .before .before .before .before .before .before .before .before .before .before .before .before .before .before .before .args .part .now) (k .before .before .before .before .before .before .before .before .loop .here)) (k .before .before .before .before .before .before .before .before .loop .rest) b (k .convert-object .result)
+    → StepsBy (k .before .before .before .before .before .before .before .before .loop .chart) (k .convert-object .last .0) (k .before .before .before .before .before .before .before .before .loop .i) (k .before .before .before .before .before .before .before .before .before .before .before .before .before .before .before .before .args .g) (k .before .before .before .before .in-force-at .result) (k .before .before .before .before .before .before .before .before .loop .w) (readObject (k .before .before .before .before .before .before .before .before .before .before .before .before .before .before .before .before .args .part .now) (k .before .before .before .before .before .before .before .before .loop .here)) (k .before .before .before .before .before .before .before .before .loop .rest) b (k .convert-object .result)
 stepped k b e =
     let a = k .before .before .before .before .before .before .before .before .before .before .before .before .before .before .before .before .args in
     let l = k .before .before .before .before .before .before .before .before .loop in
     let f = k .before .before .before .before .in-force-at .result in
-    subst (λ (o : Object). StepsBy (l .chart) (k .convert-object .last .0) (a .g) f (l .w) o (l .rest) b (k .convert-object .result)) (object-is (k .before .before .before .before .before .before))
-    (subst (λ (x : Bool). StepsBy (l .chart) (k .convert-object .last .0) (a .g) f (l .w) (k .before .before .before .before .before .before .read-object .result .object) (l .rest) x (k .convert-object .result)) e (k .convert-object .ensures))
+    subst (λ (o : Object). StepsBy (l .chart) (k .convert-object .last .0) (l .i) (a .g) f (l .w) o (l .rest) b (k .convert-object .result)) (object-is (k .before .before .before .before .before .before))
+    (subst (λ (x : Bool). StepsBy (l .chart) (k .convert-object .last .0) (l .i) (a .g) f (l .w) (k .before .before .before .before .before .before .read-object .result .object) (l .rest) x (k .convert-object .result)) e (k .convert-object .ensures))
 
 -- the facts that the object met are the song's
 facts-are : (k : tie.After-convert-object Inv-loop μ-loop)

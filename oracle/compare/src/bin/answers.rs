@@ -9,7 +9,7 @@
 use std::process::ExitCode;
 
 use compare::{Job, entry, lent_bytes};
-use entry::{JobEnd, Kind};
+use entry::{HEADER_BYTES, JobEnd, Kind, NOTE_BYTES, chart_bytes};
 use jobs::{Need, Object, Rng, Song};
 use second::hits;
 
@@ -97,7 +97,7 @@ fn many_repeats() -> Vec<(Job, u8)> {
     let mut list = Vec::new();
     for (repeats, due) in [(298, [0, 1, 1]), (299, [0, 1, 1]), (300, [6, 6, 1]), (1023, [6, 6, 1])] {
         let song = Song { key_choice: 4, objects: vec![slider(0.0, repeats, 10.0)], ..Song::default() };
-        let whole = job(&song, 8 + 17 * 301, 1000);
+        let whole = job(&song, chart_bytes(301), 1000);
         // the first object begins at byte 32, and its repeats end 144 bits later
         for (length, number) in [whole.record.len(), 50, 49].into_iter().zip(due) {
             list.push((Job { record: whole.record[..length].to_vec(), buffer: whole.buffer.clone(), allowance: whole.allowance }, number));
@@ -122,13 +122,28 @@ fn most_notes() -> Vec<Job> {
     let objects = vec![circle, circle, slider(1000.0, 299, 18.0)];
     let song = |columns| Song { key_choice: columns, hp: 10.0, ar: 7.0, objects: objects.clone(), ..Song::default() };
 
-    [3, 9].map(|columns| job(&song(columns), 8 + 17 * 700, 1000)).into()
+    [3, 9].map(|columns| job(&song(columns), chart_bytes(700), 1000)).into()
 }
 
-/// Sees that the slider has 602 notes: all but those that start at 0.
+/// Sees that the slider, which is object 2, has 602 notes: all but those that start at 0.
 fn has_most_notes(answered: &Answered) {
-    let later = answered.chart[8..].chunks(17).filter(|note| note[1..9] != [0; 8]).count();
-    assert_eq!(later, 602, "the slider has not two notes in each row");
+    let later = answered.chart[HEADER_BYTES..].chunks(NOTE_BYTES).filter(|note| note[3..11] != [0; 8]);
+    assert_eq!(later.clone().count(), 602, "the slider has not two notes in each row");
+    assert!(later.map(|note| note[1]).all(|index| index == 1), "the slider's notes have another object");
+}
+
+/// As many objects as fill ten bits of a note's index, a note each.
+fn many_objects() -> Job {
+    let circle = |index| Object { kind: Kind::Circle, sound: 0, x: 100.0, y: 100.0, start: 100.0 * f64::from(index) };
+    let song = Song { key_choice: 1, objects: (0..520).map(circle).collect(), ..Song::default() };
+
+    job(&song, chart_bytes(520), 0)
+}
+
+/// Sees that each note has its object's index.
+fn has_each_object(answered: &Answered) {
+    let chart = second::read_chart(&answered.chart).expect("a written chart is read");
+    assert!(chart.notes.iter().map(|note| note.object).eq((0..520).map(Some)), "the notes have other objects");
 }
 
 /// Two circles whose separation has document 02's sums of squares: 400, 400 − 2^−15, whose root is 20, and 400 − 2^−14, whose root is less. Only the
@@ -155,7 +170,7 @@ fn chords() -> Vec<Job> {
         let mut objects = vec![at(Kind::Circle, 400.0), at(hold, 256.0), at(Kind::Circle, 40.0), slider(1000.0, 40, 20.0), at(Kind::Circle, 200.0)];
         for _ in 0..2 {
             let song = Song { key_choice: columns, objects: objects.clone(), ..Song::default() };
-            list.push(job(&song, 8 + 17 * 100, 1000));
+            list.push(job(&song, chart_bytes(100), 1000));
             objects.reverse();
         }
     }
@@ -208,6 +223,9 @@ fn main() -> ExitCode {
     let most: Vec<Answered> = most_notes().into_iter().map(Answered::new).collect();
     most.iter().for_each(has_most_notes);
     list.extend(most);
+    let many = Answered::new(many_objects());
+    has_each_object(&many);
+    list.push(many);
     let tried: Vec<Answered> = (0..TRIES).filter_map(|_| random(&mut rng, &mut plenty)).map(Answered::new).collect();
     let sizes: Vec<usize> = tried.iter().map(|answered| answered.bytes().len()).collect();
     let mut met = vec![false; rows];

@@ -12,7 +12,7 @@
 use std::process::ExitCode;
 
 use compare::{entry, lent_bytes};
-use entry::{Kind, Single, SingleEnd, State};
+use entry::{Kind, NOTE_BYTES, Single, SingleEnd, State};
 use jobs::Rng;
 
 const MADE: usize = 120;
@@ -22,9 +22,11 @@ const REFUSED: usize = 12;
 const MOST_NOTES: u32 = 40;
 /// The refusals of the single-object entry.
 const REFUSALS: [u8; 10] = [4, 5, 6, 8, 9, 10, 11, 12, 13, 16];
+/// Room for the most notes of an object.
+const ROOM: usize = NOTE_BYTES * 602;
 /// Repeats, the buffer's length, and what is due: the number and the count of notes.
 const REPEATS: [(u32, usize, (u8, u32)); 5] =
-    [(298, 17 * 602, (0, 600)), (299, 17 * 602, (0, 602)), (299, 17 * 602 - 1, (11, 0)), (300, 17 * 602, (6, 0)), (1023, 17 * 602, (6, 0))];
+    [(298, ROOM, (0, 600)), (299, ROOM, (0, 602)), (299, ROOM - 1, (11, 0)), (300, ROOM, (6, 0)), (1023, ROOM, (6, 0))];
 const ALLOWANCES: [u32; 7] = [0, 1, 4095, 4096, 4097, 4098, 1_000_000];
 
 /// The generator gives only zeros, so that every column drawn is the first, which is taken.
@@ -125,7 +127,7 @@ fn answered(ask: &Single, length: usize) -> Option<(u8, u32, Vec<u8>)> {
     };
     let numbers = [length as u32, ask.allowance, number.into(), count, mask, last, stair, x, y, z, w, draws];
 
-    Some((number, count, entry(&input, &numbers, &notes[..17 * count as usize])))
+    Some((number, count, entry(&input, &numbers, &notes[..NOTE_BYTES * count as usize])))
 }
 
 fn main() -> ExitCode {

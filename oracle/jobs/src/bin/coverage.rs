@@ -3,11 +3,11 @@
 
 use std::process::ExitCode;
 
-use entry::{JobEnd, SingleEnd};
+use entry::{JobEnd, SingleEnd, chart_bytes};
 use jobs::{Need, Rng};
 use second::hits;
 
-const LARGEST: usize = 8 + 17 * 100_000;
+const LARGEST: usize = chart_bytes(100_000);
 
 fn main() -> ExitCode {
     let mut arguments = std::env::args()

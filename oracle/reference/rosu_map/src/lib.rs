@@ -122,7 +122,12 @@ pub mod section {
 }
 
 pub mod util {
-    use std::{ops::Sub, panic};
+    use std::{cell::Cell, ops::Sub, panic};
+
+    thread_local! {
+        /// The index of the object under way.
+        pub static OBJECT: Cell<u16> = const { Cell::new(0) };
+    }
 
     /// What unwinds when a note is put on a column off the deck.
     pub struct OffDeck;
@@ -137,13 +142,15 @@ pub mod util {
         /// The unchanged Rust calls this for each note at the moment it is added, and for the
         /// spinner's (256, 192). A column of the deck stands below 512, one off the deck at 512 or
         /// above. Positions of a record, which go up to 1,024, are made from the fields instead.
+        ///
+        /// A note gets the index of the object under way for its `y`, which would be its `x` again and which nothing reads.
         #[inline]
         pub fn new(x: f32, y: f32) -> Self {
             if x >= 512.0 {
                 off_deck();
             }
 
-            Self { x, y }
+            Self { x, y: if x == y { f32::from(OBJECT.get()) } else { y } }
         }
 
         /// The root of the squares' sum, rounded to the nearest f32: `sqrt` is IEEE 754's.

@@ -2,8 +2,9 @@
 
 use std::borrow::Cow;
 
-use rosu_map::section::{
-    events::BreakPeriod, general::GameMode, hit_objects::hit_samples::HitSoundType,
+use rosu_map::{
+    section::{events::BreakPeriod, general::GameMode, hit_objects::hit_samples::HitSoundType},
+    util::OBJECT,
 };
 
 use super::{
@@ -15,6 +16,27 @@ use super::{
     mode::ConvertError,
     mods::GameMods,
 };
+
+/// The objects' sounds. `convert` takes one with each object, which tells the object under way.
+#[derive(Clone, Default)]
+pub struct HitSounds(pub Vec<HitSoundType>);
+
+impl HitSounds {
+    pub fn iter(&self) -> impl Iterator<Item = &HitSoundType> {
+        (0..).zip(&self.0).map(|(index, sound)| {
+            OBJECT.set(index);
+            sound
+        })
+    }
+
+    pub fn truncate(&mut self, objects: usize) {
+        self.0.truncate(objects);
+    }
+
+    pub fn clear(&mut self) {
+        self.0.clear();
+    }
+}
 
 #[derive(Clone)]
 pub struct Beatmap {
@@ -30,7 +52,7 @@ pub struct Beatmap {
     pub difficulty_points: Vec<DifficultyPoint>,
     pub effect_points: Vec<EffectPoint>,
     pub hit_objects: Vec<HitObject>,
-    pub hit_sounds: Vec<HitSoundType>,
+    pub hit_sounds: HitSounds,
 }
 
 impl Beatmap {

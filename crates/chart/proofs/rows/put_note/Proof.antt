@@ -1,6 +1,7 @@
--- `chart::rows::put_note` meets its contract. The splice, the store in front of it and the splice behind are one splice of the note's bytes (`note-put-mid`).
+-- `chart::rows::put_note` meets its contract. The splice, the one in front of it and the one behind are one splice of the note's bytes (`note-put-mid`).
 -- Assumes nothing.
-use mathlib.Core.Path.{_∙_}
+use mathlib.Core.Path.{refl, _∙_}
+use Rattle.chart.specs.declared.Version.the-variants.{Two}
 use Rattle.chart.specs.Laws.Notes.{note-put-mid}
 use borrow.Author.Needs.{needs}
 use Rattle.chart.proofs.rows.put_note.Statement.{statement}
@@ -15,8 +16,8 @@ put8-requires c κs = search needs
 head-requires : tie.Need-head-requires
 head-requires c κs = search needs
 
-put-byte-requires : tie.Need-put-byte-requires
-put-byte-requires c κs = search needs
+put3-requires : tie.Need-put3-requires
+put3-requires c κs = search needs
 
 add-put8-2 : tie.Need-add-put8-2
 add-put8-2 c = search needs
@@ -33,7 +34,8 @@ returns c =
     let first = store .before .before .before .before .before in
     let start = first .before .before .before in
     c .before .before .put82 .ensures
-    ∙ rw (store .put-byte .ensures, first .put8 .ensures) (note-put-mid (start .args .s .now) (start .args .at) (start .args .n) (store .before .head .ensures) (start .pre .1))
+    ∙ rw (store .put3 .ensures, store .before .head .ensures, first .put8 .ensures)
+    (note-put-mid Two (start .args .s .now) (start .args .at) _ _ (start .args .n) refl refl (start .pre .2))
 
 pub put-note-spec : {M : Type 1} → statement M
 put-note-spec =
@@ -42,7 +44,7 @@ put-note-spec =
     add-put8
     put8-requires
     head-requires
-    put-byte-requires
+    put3-requires
     add-put8-2
     put8-requires-2
     same-length

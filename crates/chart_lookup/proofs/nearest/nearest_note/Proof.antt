@@ -18,10 +18,10 @@ read-requires c κs = search needs
 enum-known-columns : tie.Need-enum-known-columns
 enum-known-columns c = search needs
 
-knows : (c : tie.After-columns) → (c .columns .given .0 .1 .0 ≡ length (notesIn (c .before .before .before .before .args .chart .now)))
-    × ((column : ℕ) (t : Float) → seeking (c .columns .given .0 .0) (notesIn (c .before .before .before .before .args .chart .now)) column t ≡ soughtIn (decode (c .before .before .before .before .args .chart .now)) column t)
+knows : (c : tie.After-columns) → (c .columns .given .0 .1 .1 .0 ≡ length (notesIn (c .before .before .before .before .args .chart .now)))
+    × ((column : ℕ) (t : Float) → seeking (c .columns .given .0 .1 .0) (notesIn (c .before .before .before .before .args .chart .now)) column t ≡ soughtIn (decode (c .before .before .before .before .args .chart .now)) column t)
 unfolding reading
-knows c = read-columns _ _ _ _ (sym (ap meaning (c .columns .given .1)) ∙ c .before .before .read .ensures)
+knows c = read-columns _ _ _ _ _ (sym (ap meaning (c .columns .given .1)) ∙ c .before .before .read .ensures)
 
 seek-requires : tie.Need-seek-requires
 seek-requires c κs = knows (c .before) .0
