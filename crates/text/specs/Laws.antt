@@ -8,12 +8,12 @@ use native.Mathlib.Nat.{pow-suc, div-lt-iff-lt-mul}
 use native.Mathlib.Numerals.{add-one}
 use native.Mathlib.Omega.{arith}
 use lib.Dec.{ltb}
-use lib.ListN.{length, getD, take, drop, set, length-append, length-drop}
+use lib.ListN.{length, getD, take, drop, set, replicate, length-append, length-drop, length-replicate, replicate-append-replicate}
 use lib.Seq.{take-suc, drop-cons, take-at, getD-at, take-all, drop-length, length-take-le}
 use borrow.Author.Tests.{lt-ltb, le-ltb, ltb-false}
 use Rattle.chart.specs.Bytes.{splice}
-use Rattle.chart.specs.Laws.Bytes.{splice-none, splice-before, splice-next}
-use Rattle.text.specs.Text.{digit, digits, places, decimal, hex}
+use Rattle.chart.specs.Laws.Bytes.{splice-none, splice-one, splice-before, splice-next, length-splice}
+use Rattle.text.specs.Text.{digit, digits, places, decimal, hex, space, right, left}
 
 -- ---- runs of bytes
 
@@ -33,6 +33,15 @@ wrote-next {s₀ = s₀} {w = w} {i = i} {at = at} v h e n l =
       bytes = e ∙ rw (h .bytes) (splice-next s₀ i w at v (h .next) (omega arith));
       next = omega (arith, h .next, length-append w v);
     }
+
+-- one more of the same character
+pub run-more : (s₀ s : List ℕ) (at c i : ℕ) → at + i < length s₀ → s ≡ splice s₀ at (replicate i c) → set s (at + i) c ≡ splice s₀ at (replicate (i + 1) c)
+run-more s₀ s at c i h e =
+    let size : length (replicate i c) ≡ i = length-replicate i c in
+    let in-s : at + i < length (splice s₀ at (replicate i c)) = rw (length-splice s₀ at (replicate i c) (omega arith)) h in
+    rw e (splice-one (splice s₀ at (replicate i c)) (at + i) c in-s
+    ∙ splice-next s₀ at (replicate i c) (at + i) (c ∷ []) (omega arith) (omega arith)
+    ∙ ap (splice s₀ at) (replicate-append-replicate i 1 c))
 
 -- ---- digits
 
@@ -110,6 +119,20 @@ places-most (suc k) false n (suc j) e h =
     let less : n / 10 < 10 ^ suc j = div-lt-iff-lt-mul {k = 10} {x = n} {y = 10 ^ suc j} (omega arith) .1 (rw (pow-suc 10 (suc j)) at h) in
     omega (arith, places-most k (ltb (n / 10) 10) (n / 10) j refl less)
 
-pub decimal-most : (n : ℕ) → n < 2 ^ 32 → length (decimal n) ≤ 10
+pub decimal-fits : (n j : ℕ) → n < 10 ^ suc j → length (decimal n) ≤ suc j
 unfolding decimal
-decimal-most n h = rw (length-digits 10 (places n (ltb n 10) n) n) (places-most n (ltb n 10) n 9 refl (omega arith))
+decimal-fits n j h = rw (length-digits 10 (places n (ltb n 10) n) n) (places-most n (ltb n 10) n j refl h)
+
+pub decimal-most : (n : ℕ) → n < 2 ^ 32 → length (decimal n) ≤ 10
+decimal-most n h = decimal-fits n 9 (omega arith)
+
+-- ---- places
+
+pub length-right : (width n : ℕ) → length (decimal n) ≤ width → length (right width n) ≡ width
+unfolding right
+length-right width n h =
+    length-append (replicate (width - length (decimal n)) space) (decimal n) ∙ omega (arith, length-replicate (width - length (decimal n)) space)
+
+pub length-left : (width : ℕ) (t : List ℕ) → length t ≤ width → length (left width t) ≡ width
+unfolding left
+length-left width t h = length-append t (replicate (width - length t) space) ∙ omega (arith, length-replicate (width - length t) space)

@@ -4,8 +4,9 @@ use mathlib.Core.Bool.{Bool, true, false, cond}
 use mathlib.Core.List.{List, [], _∷_, _++_}
 use Prim.Native.Char.{code}
 use Prim.Native.String.{String, [] as []ᵗ, _∷_ as _∷ᵗ_}
-use Prim.Native.Nat.{ℕ, zero, suc, _+_, _/_, _%_}
+use Prim.Native.Nat.{ℕ, zero, suc, _+_, _-_, _/_, _%_}
 use lib.Dec.{ltb}
+use lib.ListN.{length, replicate}
 
 -- the codes of a word
 unfoldable pub ascii : String → List ℕ
@@ -36,6 +37,19 @@ decimal n = digits 10 (places n (ltb n 10) n) n
 -- the bit pattern of an f64
 unfoldable pub hex : ℕ → List ℕ
 hex bits = digits 16 16 bits
+
+-- ---- places
+
+abbrev pub space : ℕ
+space = code " "
+
+-- a number, right-aligned in so many places
+unfoldable pub right : ℕ → ℕ → List ℕ
+right width n = replicate (width - length (decimal n)) space ++ decimal n
+
+-- a text, with spaces behind it up to so many places
+unfoldable pub left : ℕ → List ℕ → List ℕ
+left width t = t ++ replicate (width - length t) space
 
 -- ---- words
 

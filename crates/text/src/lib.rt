@@ -1,9 +1,9 @@
 // Text in ASCII codes, stored in a lent buffer: digits, decimal and hexadecimal numbers, and words.
 ghost use mathlib.Core.Path.{_≡_};
 ghost use Prim.Native.Nat.{_+_, _≤_, _<_};
-ghost use lib.ListN.{length};
+ghost use lib.ListN.{length, replicate};
 ghost use Rattle.chart.specs.Bytes.{splice};
-ghost use Rattle.text.specs.Text.{digit, digits, decimal, hex, named, withHex};
+ghost use Rattle.text.specs.Text.{digit, digits, decimal, hex, right, named, withHex};
 
 // The ASCII code of a digit: 0 to 9, then A to F.
 fn digit_code(d: u64) -> u8
@@ -49,6 +49,32 @@ pub fn put_decimal(s: &mut [u8], at: usize, n: u32) -> usize
     let k = places(n);
     put_digits(s, at, n as u64, 10, k);
     at + k
+}
+
+// Stores one character `count` times from `at`, and gives the index after them.
+pub fn put_run(s: &mut [u8], at: usize, character: u8, count: usize) -> usize
+    requires { ⌜ at + count ≤ length (now s) ⌝ }
+    ensures { λ r. ⌜ r ≡ at + count ⌝ }
+    ensures { λ _. ⌜ now (s .exit) ≡ splice (now (s .entry)) at (replicate count character) ⌝ }
+{
+    let mut i = 0;
+    while i < count {
+        s[at + i] = character;
+        i += 1;
+    }
+    at + i
+}
+
+// Stores n in decimal, right-aligned in `width` places, from `at`, and gives the index after it.
+pub fn put_right(s: &mut [u8], at: usize, width: usize, n: u32) -> usize
+    requires { ⌜ (length (decimal n) ≤ width) × (at + width ≤ length (now s)) ⌝ }
+    ensures { λ r. ⌜ r ≡ at + width ⌝ }
+    ensures { λ _. ⌜ now (s .exit) ≡ splice (now (s .entry)) at (right width n) ⌝ }
+{
+    let k = places(n);
+    let first = put_run(s, at, b' ', width - k);
+    put_digits(s, first, n as u64, 10, k);
+    first + k
 }
 
 // Stores the 16 hexadecimal digits of a bit pattern from `at`, and gives the index after them.
