@@ -131,7 +131,7 @@ module _ (s : List ℕ) (c : Score) (read : decode s ≡ some c) (column : ℕ) 
         its-column = r .its-column;
         least = r .least;
         earlier = λ q l e d.
-            ticks-le (getD (c .notes) j blank .start) (getD (c .notes) q blank .start) (starts-rise (c .columns) (columns-few s c read) 0 (c .notes) (notes-ok s c read) j q (no-later q e d) l)
+            ticks-le (getD (c .notes) j blank .start) (getD (c .notes) q blank .start) (starts-rise (c .columns) (omega (arith, columns-few s c read)) 0 (c .notes) (notes-ok s c read) j q (no-later q e d) l)
             (notes-times (c .columns) 0 (c .notes) (notes-ok s c read) q blank l .0);
         first = λ q e d. no-later q e (ap (λ (b : ℕ). distance (ticks (time b)) (instant t)) d);
       }

@@ -10,18 +10,20 @@ use native.Mathlib.Omega.{arith}
 use lib.Dec.{leb, ltb, eqb}
 use lib.ListN.{length, getD, drop}
 use lib.Seq.{getD-drop, drop-drop}
-use borrow.Author.Tests.{ne-eqb, eq-eqb, le-leb, lt-leb, eqb-true}
+use borrow.Author.Tests.{ne-eqb, eq-eqb, le-leb, lt-leb, eqb-true, leb-true, ltb-true}
 use Rattle.rules.specs.Numbers as Numbers
 use Rattle.floats.specs.Ticks.{ticks}
-use Rattle.chart.specs.Layout.{chartSizeIn, noteSizeIn, versionNumber, zeroUnit, columnValues}
+use Rattle.chart.specs.Layout.{chartSizeIn, noteSizeIn, versionNumber, zeroUnit, mostInChart}
 use Rattle.chart.specs.declared.Version.{Version}
 use Rattle.chart.specs.declared.Version.the-variants.{One, Two}
+use Rattle.chart.specs.Bytes.{Bytes}
 use Rattle.chart.specs.declared.Note.{Note}
 use Rattle.chart.specs.Tests.{every, passes, fails, both}
 use Rattle.chart.specs.Time.{time, isTime, latest}
 use Rattle.chart.specs.Order.{rank}
 use Rattle.chart.specs.Chart.{Score, headOf, versionOf, noteBy, refused, accepted, reading, readingOf, columnsOf, countOf, decode, drawsOf, headTests, lasts, noteIn, noteOf, notesOf, noteTests, okChart, okHead, okNote, okNotes, okRow, okRows, scoreOf, notesRead, notesIn, blank}
 use Rattle.floats.specs.Format.{infinity}
+use Rattle.chart.specs.Laws.Bytes.{bytes-drop, num-fits}
 use Rattle.chart.specs.Laws.Times.{time-fits}
 use Rattle.chart.specs.Laws.Notes.{length-notesOf, notes-at}
 
@@ -134,11 +136,6 @@ rows-notes v c l (suc k) s ok =
     let row = both (eqb (headOf v s % zeroUnit v) 0) (okNote c l (noteOf v s)) (here .0) in
     rw (row .1) (rows-notes v c (rank (noteOf v s)) k (drop (noteSizeIn v) s) (here .1))
 
--- it has few columns
-pub columns-few : (s : List ℕ) (c : Score) → decode s ≡ some c → c .columns < columnValues
-unfolding scoreOf columnsOf
-columns-few s c e = rw (← read-score s c e .1) (omega arith)
-
 -- its notes keep the rule
 pub notes-ok : (s : List ℕ) (c : Score) → decode s ≡ some c → okNotes (c .columns) 0 (c .notes) ≡ true
 unfolding okChart scoreOf
@@ -206,3 +203,37 @@ module _ (s : List ℕ) (i : ℕ) where
   pub note-known : i < length (notesIn s) → (noteIn s i ≡ some (getD (notesIn s) i blank))
       × ((getD (notesIn s) i blank .start < infinity) × (getD (notesIn s) i blank .duration < infinity))
   note-known l = known (decode s) refl l
+
+-- ---- bounds of a chart that was read
+
+pub columns-few : (s : List ℕ) (c : Score) → decode s ≡ some c → c .columns ≤ 9
+unfolding okChart okHead headTests scoreOf
+columns-few s c e =
+    let k = read-score s c e in
+    let head = both (okHead s) (okRows (versionOf s) (columnsOf s) 0 (countOf s) (drop 8 s)) (k .0) .0 in
+    rw (← (k .1)) (leb-true (columnsOf s) 9 (passes (headTests s) head 3))
+
+pub notes-few : (s : List ℕ) (c : Score) → Bytes s → decode s ≡ some c → length (c .notes) ≤ mostInChart
+unfolding countOf scoreOf
+notes-few s c b e =
+    rw (← (read-score s c e .1), length-notesOf (versionOf s) (countOf s) (drop 8 s)) (omega (arith, num-fits 3 (drop 1 s) (bytes-drop 1 s b)))
+
+-- each note may stand after some rank
+note-stands : (c l : ℕ) (ns : List Note) → okNotes c l ns ≡ true → (i : ℕ) (d : Note) → i < length ns → (last : ℕ) × (okNote c last (getD ns i d) ≡ true)
+unfolding okNotes
+note-stands c l [] ok i d h = absurd (omega arith)
+note-stands c l (n ∷ ns) ok zero d h = (l, both (okNote c l n) (okNotes c (rank n) ns) ok .0)
+note-stands c l (n ∷ ns) ok (suc i) d h = note-stands c (rank n) ns (both (okNote c l n) (okNotes c (rank n) ns) ok .1) i d (omega arith)
+
+le-first : (a b n : ℕ) → a + b ≤ n → a ≤ n
+le-first a b n h = omega arith
+
+-- a note's column is on the deck, and its start is no later than the latest end
+pub note-bounds : (s : List ℕ) (c : Score) → decode s ≡ some c → (i : ℕ) → i < length (c .notes)
+    → (getD (c .notes) i blank .column < c .columns) × (ticks (time (getD (c .notes) i blank .start)) ≤ latest)
+unfolding okNote noteTests
+note-bounds s c e i h =
+    let n : Note = getD (c .notes) i blank in
+    let ok = note-stands (c .columns) 0 (c .notes) (notes-ok s c e) i blank h in
+    let tests = noteTests (c .columns) (ok .0) n in
+    (ltb-true (n .column) (c .columns) (passes tests (ok .1) 0), le-first (ticks (time (n .start))) (ticks (time (n .duration))) latest (leb-true _ latest (passes tests (ok .1) 5)))

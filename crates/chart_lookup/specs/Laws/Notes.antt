@@ -57,7 +57,7 @@ module _ (s : List ℕ) where
   rise-in : (o : Option Score) → decode s ≡ o → (i j : ℕ) → i ≤ j → j < length (notesRead o) → getD (notesRead o) i blank .start ≤ getD (notesRead o) j blank .start
   unfolding notesRead
   rise-in none e i j h k = absurd (omega arith)
-  rise-in (some c) e i j h k = starts-rise (c .columns) (columns-few s c e) 0 (c .notes) (notes-ok s c e) i j h k
+  rise-in (some c) e i j h k = starts-rise (c .columns) (omega (arith, columns-few s c e)) 0 (c .notes) (notes-ok s c e) i j h k
 
   pub rise : (i j : ℕ) → i ≤ j → j < length (notesIn s) → getD (notesIn s) i blank .start ≤ getD (notesIn s) j blank .start
   rise i j h k = rise-in (decode s) refl i j h k
