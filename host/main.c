@@ -105,6 +105,18 @@ static int print_around(size_t length) {
     return 0;
 }
 
+/* The chart's sheet: a page, in a buffer that is a byte too short, and then in one that just holds it. Its first two lines are printed. */
+static int print_sheet(size_t length) {
+    uint8_t *sheet = malloc(SUMOPINE_PAGE_BYTES);
+    if (sheet == NULL) return 1;
+    uint64_t bytes;
+    if (sumopine_sheet(chart, length, sheet, SUMOPINE_PAGE_BYTES - 1, &bytes) != SUMOPINE_SHEET_TOO_SHORT || bytes != 0) return 1;
+    if (sumopine_sheet(chart, length, sheet, SUMOPINE_PAGE_BYTES, &bytes) != 0) return 1;
+    printf("a sheet of %" PRIu64 " bytes:\n%.82s", bytes, (const char *)sheet);
+    free(sheet);
+    return 0;
+}
+
 /* The small record's hold alone, after no other object, from the state of seed 0, or with some of its numbers others. It makes one note. */
 static uint32_t object(uint32_t mask_before, uint32_t last_before, uint32_t columns, uint32_t sound, uint32_t kind, uint32_t repeats, uint32_t node,
                        uint8_t *note, uint32_t *notes, uint32_t *draws) {
@@ -190,6 +202,7 @@ int main(int count, char **words) {
     printf("%" PRIu32 " draws, at most %" PRIu32 " in one search\n", draws, longest_search);
     if (count > 1) return 0;
     if (print_around((size_t)length) != 0) return 1;
+    if (print_sheet((size_t)length) != 0) return 1;
     if (print_old_chart() != 0) return 1;
     if (print_object() != 0) return 1;
     if (print_longest() != 0) return 1;

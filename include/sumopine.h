@@ -41,6 +41,10 @@ extern "C" {
 /* Stack that a call takes at most. */
 #define SUMOPINE_STACK_BYTES 65536
 
+/* Bytes of a page of a chart's sheet, and the notes that it shows. */
+#define SUMOPINE_PAGE_BYTES 2624
+#define SUMOPINE_PAGE_NOTES 63
+
 /* The refusals. */
 enum {
     SUMOPINE_FIELD_NOT_WHOLE = 1,
@@ -57,6 +61,7 @@ enum {
     SUMOPINE_NO_DRAW_LEFT = 12,
     SUMOPINE_COLUMNS_OR_PREVIOUS = 13,
     SUMOPINE_BROKEN_CHART = 14,
+    SUMOPINE_SHEET_TOO_SHORT = 15,
     SUMOPINE_LONG_SEARCH = 16,
     SUMOPINE_TIMES = 17,
     SUMOPINE_COLUMN_OFF_DECK = 18,
@@ -141,6 +146,18 @@ uint32_t sumopine_holds_at(const uint8_t *chart, size_t chart_len, double time, 
  *
  * The chart is only read. */
 uint32_t sumopine_nearest_note(const uint8_t *chart, size_t chart_len, uint32_t column, double time, uint32_t *found, uint32_t *place);
+
+/* Writes a chart's sheet from the start of the sheet buffer: pages of 64 lines, each 40 characters and a line feed. A page's first line is `PAGE`
+ * and its number, from 1; the other 63 show a note each, in chart order: its start in whole milliseconds, cut downward, in 9 places, a space, and
+ * a place for each column, `o` for a circle, `#` for a hold, `.` for no note. Blank lines fill the last page.
+ *
+ * Returns   *length              the sheet buffer
+ * 0         the sheet's bytes    the sheet; later bytes keep their values
+ * 14        0                    as lent: the chart is broken
+ * 15        0                    as lent: it is too short for the whole sheet
+ *
+ * n notes take (n + 62) / 63 pages, and one where n is 0. The chart is only read. */
+uint32_t sumopine_sheet(const uint8_t *chart, size_t chart_len, uint8_t *sheet, size_t sheet_len, uint64_t *length);
 
 /* Kinds of an object. */
 enum { SUMOPINE_CIRCLE = 0, SUMOPINE_SLIDER = 1, SUMOPINE_SPINNER = 2, SUMOPINE_HOLD = 3 };

@@ -1,2 +1,3 @@
--- A job that ended, from the code's answer (`Ended`).
+-- A job that ended, from the code's answer (`Ended`), and room for its sheet (`Room`).
 pub mod Ended
+pub mod Room

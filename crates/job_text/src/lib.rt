@@ -1,5 +1,6 @@
 // What `charttext` prints for an input: the text of its job. The program itself only reads and writes.
 pub mod limits;
+pub mod sheets;
 
 use crate::limits::ALLOWANCE;
 use crate::limits::CHART_BYTES;

@@ -56,6 +56,10 @@ columnsOrPrevious = 13
 abbrev pub brokenChart : ℕ
 brokenChart = 14
 
+-- the sheet buffer is too short
+abbrev pub sheetTooShort : ℕ
+sheetTooShort = 15
+
 -- one search needs a draw beyond its limit
 abbrev pub longSearch : ℕ
 longSearch = 16

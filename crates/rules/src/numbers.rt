@@ -27,6 +27,8 @@ pub const COLUMNS_OR_PREVIOUS: u8 = 13;
 
 pub const BROKEN_CHART: u8 = 14;
 
+pub const SHEET_TOO_SHORT: u8 = 15;
+
 pub const LONG_SEARCH: u8 = 16;
 
 pub const TIMES: u8 = 17;

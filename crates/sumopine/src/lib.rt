@@ -3,6 +3,7 @@
 pub mod lookups;
 pub mod one_object;
 pub mod ranges;
+pub mod sheets;
 
 use chart::Answer;
 use chart::Found;

@@ -183,6 +183,15 @@ pub enum ListEnd {
     Refused { number: u8 },
 }
 
+/// How a chart's sheet ends (document 02, CR 1).
+#[derive(Clone, Copy, Debug, PartialEq, Eq)]
+pub enum SheetEnd {
+    /// So many bytes stand at the buffer's start; later bytes keep their values.
+    Sheet { length: usize },
+    /// Refusals 14 and 15. The buffer is as it was lent.
+    Refused { number: u8 },
+}
+
 /// How the lookup of the nearest note of a column ends (document 02, CR 10).
 #[derive(Clone, Copy, Debug, PartialEq, Eq)]
 pub enum NearestEnd {

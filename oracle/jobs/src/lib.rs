@@ -16,7 +16,7 @@ pub use charts::{chart, damaged_chart};
 pub use damage::damaged;
 pub use eight::song_of_8;
 pub use lent::{Need, lent};
-pub use lookups::{Notes, column, list_length, moment, noted_chart};
+pub use lookups::{Notes, column, list_length, moment, noted_chart, sheet_chart, sheet_length};
 pub use records::{Bound, bound, record, song};
 pub use rng::Rng;
 pub use singles::{damaged_single, single, state_giving};

@@ -60,13 +60,7 @@ fn duration(rng: &mut Rng, start: f64, common_end: f64) -> Option<f64> {
     (duration > 0.0).then_some(duration.min(most)).filter(|duration| *duration > 0.0)
 }
 
-fn notes(rng: &mut Rng, version: u8, columns: u8) -> Vec<Note> {
-    let most = match rng.below(1000) {
-        0 => 3000,
-        1..150 => 60,
-        _ => 10,
-    };
-    let count = rng.index(most);
+fn notes(rng: &mut Rng, version: u8, columns: u8, count: usize) -> Vec<Note> {
     let common_end = time(rng);
     let mut starts: Vec<f64> = Vec::new();
     for index in 0..count {
@@ -91,8 +85,8 @@ fn notes(rng: &mut Rng, version: u8, columns: u8) -> Vec<Note> {
     notes
 }
 
-/// A chart for lookups, of either version; one in thirty is damaged.
-pub fn noted_chart(rng: &mut Rng) -> Notes {
+/// A chart of a number of notes, of either version; one in thirty is damaged.
+fn chart(rng: &mut Rng, count: impl Fn(&mut Rng) -> usize) -> Notes {
     if rng.below(30) == 0 {
         let bytes = damaged_chart(rng);
         let chart = second::read_chart(&bytes);
@@ -100,9 +94,44 @@ pub fn noted_chart(rng: &mut Rng) -> Notes {
     }
     let columns = rng.between(1, 9) as u8;
     let version = rng.between(1, 2) as u8;
-    let chart = Chart { version, columns, notes: notes(rng, version, columns), draws: rng.word() as u32 };
+    let count = count(rng);
+    let notes = notes(rng, version, columns, count);
+    let chart = Chart { version, columns, notes, draws: rng.word() as u32 };
 
     Notes { bytes: second::write_chart(&chart), columns, notes: chart.notes }
+}
+
+/// A chart for lookups.
+pub fn noted_chart(rng: &mut Rng) -> Notes {
+    chart(rng, |rng| {
+        let most = match rng.below(1000) {
+            0 => 3000,
+            1..150 => 60,
+            _ => 10,
+        };
+        rng.index(most)
+    })
+}
+
+/// A chart for a sheet, of 0 to 1,000 notes: often as many as fill pages, or one more or fewer.
+pub fn sheet_chart(rng: &mut Rng) -> Notes {
+    chart(rng, |rng| match rng.below(4) {
+        0 => (63 * rng.index(16) + rng.index(3)).saturating_sub(1),
+        1 => rng.index(64),
+        _ => rng.index(1001),
+    })
+}
+
+/// The length of a buffer for the sheet of so many notes: exactly enough, a byte or a page less, none, or more.
+pub fn sheet_length(rng: &mut Rng, notes: usize) -> usize {
+    let exact = 2624 * notes.div_ceil(63).max(1);
+    match rng.below(8) {
+        0..3 => exact,
+        3 => exact - 1,
+        4 => exact - 2624,
+        5 => rng.index(exact),
+        _ => exact + 1 + rng.index(5000),
+    }
 }
 
 /// A time to look up: at, next to and between starts, ends and middles, before and far beyond the chart, or not finite.

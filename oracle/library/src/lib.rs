@@ -5,6 +5,7 @@ use entry::{Chart, JobEnd, Note};
 pub mod announced;
 pub mod lookups;
 pub mod object;
+pub mod sheets;
 
 mod c {
     unsafe extern "C" {

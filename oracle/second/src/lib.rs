@@ -15,6 +15,7 @@ mod pattern;
 mod record;
 mod refusal;
 mod search;
+mod sheet;
 mod slider;
 mod text;
 
@@ -22,6 +23,7 @@ pub use announced::{column_counts, slider_ends};
 pub use chart::{read_chart, write_chart};
 pub use convert::{job, single};
 pub use lookups::{holds_at, nearest_note, notes_between};
+pub use sheet::sheet;
 pub use text::charttext;
 
 #[cfg(test)]

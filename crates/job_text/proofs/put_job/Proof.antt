@@ -5,6 +5,7 @@ use native.Mathlib.Omega.{arith}
 use lib.ListN.{length}
 use lib.Seq.{length-take-le}
 use Rattle.convert.specs.declared.JobEnd.the-variants as J
+use Rattle.chart_text.specs.Text.{text}
 use Rattle.job_text.specs.Limits.{allowance}
 use Rattle.job_text.proofs.Ended.{ended-text, chart-fits}
 use borrow.Author.Needs.{needs}
@@ -59,9 +60,9 @@ returns c =
     let k = put .before .before .before in
     let convert = k .before .before .before .before .before .convert in
     let start = k .before .before .before .before .before .before .before .before .before .before in
-    let text = ended-text (start .args .bytes .now) (start .args .chart .now) (convert .last .1 .0) allowance (convert .result) (J.Chart (k .before .size .given .0 .0) (k .before .size .given .0 .1 .0)) (convert .ensures)
-    (k .before .size .given .1) (put .put-chart .result) (start .args .text .now) (put .put-chart .last .1 .0) (put .put-chart .ensures .0 .0, put .put-chart .ensures .1) in
-    ((text .0, put .put-chart .ensures .0 .1), text .1)
+    let shown = ended-text (start .args .bytes .now) (start .args .chart .now) (convert .last .1 .0) allowance (convert .result) (J.Chart (k .before .size .given .0 .0) (k .before .size .given .0 .1 .0)) (convert .ensures)
+    (k .before .size .given .1) text (put .put-chart .result) (start .args .text .now) (put .put-chart .last .1 .0) (put .put-chart .ensures .0 .0, put .put-chart .ensures .1) in
+    ((shown .0, put .put-chart .ensures .0 .1), shown .1)
 
 same-length-3 : tie.Need-same-length-3
 same-length-3 c = search needs
@@ -76,9 +77,9 @@ returns-2 c =
     let convert = k .before .before .before .before .before .convert in
     let start = k .before .before .before .before .before .before .before .before .before .before in
     let v = k .before .number .given in
-    let text = ended-text (start .args .bytes .now) (start .args .chart .now) (convert .last .1 .0) allowance (convert .result) (J.Refused (v .0 .0) (v .0 .1 .0) (v .0 .1 .1 .0)) (convert .ensures)
-    (v .1) (put .put-refusal-line .result) (start .args .text .now) (put .put-refusal-line .last .0) (omega (arith, put .put-refusal-line .ensures .0 .0), put .put-refusal-line .ensures .1) in
-    ((text .0, omega (arith, put .put-refusal-line .ensures .0 .1, start .pre)), text .1)
+    let shown = ended-text (start .args .bytes .now) (start .args .chart .now) (convert .last .1 .0) allowance (convert .result) (J.Refused (v .0 .0) (v .0 .1 .0) (v .0 .1 .1 .0)) (convert .ensures)
+    (v .1) text (put .put-refusal-line .result) (start .args .text .now) (put .put-refusal-line .last .0) (omega (arith, put .put-refusal-line .ensures .0 .0), put .put-refusal-line .ensures .1) in
+    ((shown .0, omega (arith, put .put-refusal-line .ensures .0 .1, start .pre)), shown .1)
 
 pub put-job-spec : {M : Type 1} → statement M
 put-job-spec =

@@ -1,0 +1,2 @@
+-- The claims on the sheet, proved.
+pub mod Claims
