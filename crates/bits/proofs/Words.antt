@@ -8,7 +8,7 @@ use lib.ListN.{getD}
 use lib.Pow.{pow-add, shl-lt, shr-lt}
 use lib.Arith.{digits-lt, digits-mod}
 use Rattle.bits.specs.Field.{bit, bits}
-use Rattle.bits.specs.Laws.Fields.{bits-lt, bits-more, bits-split, bits-first, bits-last}
+use Rattle.bits.specs.Laws.Fields.{bits-lt, bits-more, bits-split, bits-first}
 
 first : (s : List ℕ) (i : ℕ) → 0 * 256 + getD s i 0 / 1 % 256 ≡ bits s (8 * i) 8
 unfolding bits

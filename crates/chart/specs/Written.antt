@@ -4,10 +4,10 @@ use mathlib.Core.Path.{_≡_, refl, sym, _∙_}
 use mathlib.Core.Bool.{true, false}
 use mathlib.Core.List.{List, [], _∷_}
 use mathlib.Core.Option.{some}
-use Prim.Native.Nat.{ℕ, _+_, _^_, _≤_, _<_, zero-le}
+use Prim.Native.Nat.{ℕ, _+_, _^_, _≤_, _<_}
 use native.Mathlib.Nat.{zero-add, add-zero}
 use native.Mathlib.Omega.{arith}
-use lib.Dec.{T, leb}
+use lib.Dec.{T}
 use lib.ListN.{length}
 use lib.Ieee.{Float, binary64, fits, toBits}
 use borrow.Author.Tests.{le-leb, lt-ltb}
@@ -19,7 +19,7 @@ use Rattle.chart.specs.declared.Origin.{Origin}
 use Rattle.chart.specs.declared.Note.{Note}
 use Rattle.chart.specs.Tests.{passes}
 use Rattle.chart.specs.Laws.Times.{ticks-zero, time-below, time-toBits, toBits-time}
-use Rattle.chart.specs.Time.{time, latest}
+use Rattle.chart.specs.Time.{latest}
 use Rattle.chart.specs.Chart.{Tells, encode, decode, lasts, noteTests, okNote, okNotes}
 use Rattle.chart.specs.Laws.Reader.{first-rank, note-decided}
 use Rattle.chart.specs.Order.{rank, arranged}

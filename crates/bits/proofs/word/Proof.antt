@@ -1,5 +1,5 @@
 -- `bits::word` meets its contract. Assumes nothing.
-use mathlib.Core.Path.{_≡_, _∙_}
+use mathlib.Core.Path.{_≡_}
 use Prim.Native.Nat.{_+_, _-_, _*_, _%_, _^_}
 use Rattle.bits.specs.Field.{bits}
 use Rattle.bits.proofs.Words.{shifted-is, word-is, word-lt}

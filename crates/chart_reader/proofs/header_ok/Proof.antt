@@ -5,7 +5,7 @@ use Prim.Native.Nat.{_/_}
 use lib.ListN.{getD}
 use borrow.Author.Tests.{lt-leb, ne-eqb}
 use Rattle.chart.specs.Layout.{versionNumber}
-use Rattle.chart.specs.Chart.{headTests, versionOf, columnsOf, countOf}
+use Rattle.chart.specs.Chart.{headTests, columnsOf, countOf}
 use Rattle.chart.specs.Laws.Reader.{head-refused, head-decided}
 use borrow.Author.Needs.{needs}
 use Rattle.chart_reader.proofs.header_ok.Statement.{statement}

@@ -1,12 +1,11 @@
 -- `chart_reader::rows_ok` meets its contract. The invariant: the rows from the i-th on pass exactly where all rows do. The measure is the number of rows left.
 -- Assumes nothing.
-use mathlib.Core.Path.{_≡_, sym, ap, _∙_}
-use Prim.Native.Nat.{ℕ, _-_, _≤_, _<_}
+use mathlib.Core.Path.{_≡_, sym, _∙_}
+use Prim.Native.Nat.{_-_, _≤_, _<_}
 use native.Mathlib.Nat.{sub-zero, le-trans, lt-trans}
-use native.Mathlib.Omega.{arith}
 use borrow.Author.Needs.{needs}
 use borrow.Author.Tests.{not-true, not-false, ltb-true, eqb-true, eqb-false}
-use lib.ListN.{length, drop}
+use lib.ListN.{drop}
 use Rattle.chart.specs.Layout.{chartSizeIn, columnValues}
 use Rattle.chart.specs.Tests.{passes}
 use Rattle.chart.specs.Chart.{okRows, noteTests, okNote}

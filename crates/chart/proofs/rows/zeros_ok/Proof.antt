@@ -6,7 +6,7 @@ use native.Mathlib.Omega.{arith}
 use lib.ListN.{length}
 use Rattle.chart.specs.Layout.{noteSizeIn, noteSize}
 use Rattle.chart.specs.declared.Version.{Version}
-use Rattle.chart.specs.declared.Version.the-variants.{One, Two}
+use Rattle.chart.specs.declared.Version.the-variants.{One}
 use borrow.Author.Needs.{needs}
 use Rattle.chart.proofs.rows.zeros_ok.Statement.{statement}
 use Rattle.chart.proofs.rows.zeros_ok.Tie as tie
