@@ -14,7 +14,7 @@ fn digit_code(d: u64) -> u8
 }
 
 // How many decimal digits n has.
-fn places(n: u32) -> usize
+pub fn places(n: u32) -> usize
     ensures { λ r. ⌜ (r ≡ length (decimal n)) × (r ≤ 10) ⌝ }
 {
     let mut k = 1;
@@ -40,15 +40,24 @@ fn put_digits(s: &mut [u8], at: usize, n: u64, base: u64, k: usize)
     }
 }
 
-// Stores n in decimal from `at`, and gives the index after it. All other bytes keep their values, as below.
-pub fn put_decimal(s: &mut [u8], at: usize, n: u32) -> usize
-    requires { ⌜ at + 10 ≤ length (now s) ⌝ }
-    ensures { λ r. ⌜ (r ≡ at + length (decimal n)) × (r ≤ at + 10) ⌝ }
+// Stores n in decimal from `at`, where its digits fit, and gives the index after it. All other bytes keep their values, as below.
+pub fn put_number(s: &mut [u8], at: usize, n: u32) -> usize
+    requires { ⌜ at + length (decimal n) ≤ length (now s) ⌝ }
+    ensures { λ r. ⌜ r ≡ at + length (decimal n) ⌝ }
     ensures { λ _. ⌜ now (s .exit) ≡ splice (now (s .entry)) at (decimal n) ⌝ }
 {
     let k = places(n);
     put_digits(s, at, n as u64, 10, k);
     at + k
+}
+
+// The same where there is room for every number.
+pub fn put_decimal(s: &mut [u8], at: usize, n: u32) -> usize
+    requires { ⌜ at + 10 ≤ length (now s) ⌝ }
+    ensures { λ r. ⌜ (r ≡ at + length (decimal n)) × (r ≤ at + 10) ⌝ }
+    ensures { λ _. ⌜ now (s .exit) ≡ splice (now (s .entry)) at (decimal n) ⌝ }
+{
+    put_number(s, at, n)
 }
 
 // Stores one character `count` times from `at`, and gives the index after them.

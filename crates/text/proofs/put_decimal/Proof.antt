@@ -1,33 +1,21 @@
--- `text::put_decimal` meets its contract: as many digits are stored as the number has. Assumes nothing.
-use mathlib.Core.Path.{_≡_, _∙_}
+-- `text::put_decimal` meets its contract: no number has more than ten digits. Assumes nothing.
 use native.Mathlib.Omega.{arith}
-use lib.Dec.{ltb}
-use Rattle.text.specs.Text.{places, decimal}
-use Rattle.text.specs.Laws.{length-digits}
+use Rattle.text.specs.Laws.{decimal-most}
 use borrow.Author.Needs.{needs}
 use Rattle.text.proofs.put_decimal.Statement.{statement}
 use Rattle.text.proofs.put_decimal.Tie as tie
 
-places-requires : tie.Need-places-requires
-places-requires c κs = search needs
-
-put-digits-requires : tie.Need-put-digits-requires
-put-digits-requires c κs = search needs
-
-add-result : tie.Need-add-result
-add-result c = search needs
+put-number-requires : tie.Need-put-number-requires
+put-number-requires c κs = let a = c .before .before .args in omega (arith, decimal-most (a .n) (omega arith))
 
 same-length : tie.Need-same-length
 same-length c = search needs
 
 returns : tie.Need-returns
-unfolding decimal
 returns c =
-    let n = c .before .before .before .before .before .before .args .n in
-    let k = c .before .before .before .before .places in
-    let size : k .result ≡ places n (ltb n 10) n = k .ensures .0 ∙ length-digits 10 (places n (ltb n 10) n) n in
-    ((omega (arith, k .ensures .0), omega (arith, k .ensures .1)), c .before .before .put-digits .ensures ∙ rw size)
+    let put = c .before .before .put-number in
+    let a = c .before .before .before .before .before .args in
+    ((put .ensures .0, omega (arith, put .ensures .0, decimal-most (a .n) (omega arith))), put .ensures .1)
 
 pub put-decimal-spec : {M : Type 1} → statement M
-put-decimal-spec =
-    tie.close (tie.spec places-requires put-digits-requires add-result same-length returns)
+put-decimal-spec = tie.close (tie.spec put-number-requires same-length returns)
