@@ -137,6 +137,21 @@ static int wide_refused(uint8_t *note) {
     return object(0, 0, 9, 0, 4, 0, 0, note, &notes, &draws) == SUMOPINE_OBJECT && notes == 0 && draws == 0;
 }
 
+/* The chart as hit object lines, and the chart of version 1 that is read from them: the same note without its object, and no draws. */
+static int print_lines(size_t length) {
+    uint8_t text[41], made[SUMOPINE_HEADER_BYTES + SUMOPINE_OLD_NOTE_BYTES];
+    uint64_t text_length, made_length;
+    if (sumopine_write_hit_objects(chart, length, text, sizeof text, &text_length) != 0) return 1;
+    printf("%.*s", (int)text_length, (const char *)text);
+    if (sumopine_read_hit_objects(text, (size_t)text_length, chart[0] % 16, made, sizeof made, &made_length) != 0) return 1;
+    if (made_length != sizeof made || made[0] != 16 + chart[0] % 16 || memcmp(made + 1, chart + 1, 3) != 0) return 1;
+    if (made[8] != chart[8] || memcmp(made + 9, chart + 11, SUMOPINE_OLD_NOTE_BYTES - 1) != 0) return 1;
+    /* Refusals set the length to 0 and leave the buffer: a byte too few for the text and for the chart, and a line without its line feed. */
+    if (sumopine_write_hit_objects(chart, length, text, (size_t)text_length - 1, &made_length) != SUMOPINE_TEXT_TOO_SHORT || made_length != 0) return 1;
+    if (sumopine_read_hit_objects(text, (size_t)text_length, 9, made, sizeof made - 1, &made_length) != SUMOPINE_CHART_TOO_SHORT) return 1;
+    return sumopine_read_hit_objects(text, (size_t)text_length - 1, 9, made, sizeof made, &made_length) != SUMOPINE_HIT_OBJECTS || made_length != 0;
+}
+
 static int print_object(void) {
     uint8_t *note = malloc(SUMOPINE_NOTE_BYTES);
     if (note == NULL) return 1;
@@ -203,6 +218,7 @@ int main(int count, char **words) {
     if (count > 1) return 0;
     if (print_around((size_t)length) != 0) return 1;
     if (print_sheet((size_t)length) != 0) return 1;
+    if (print_lines((size_t)length) != 0) return 1;
     if (print_old_chart() != 0) return 1;
     if (print_object() != 0) return 1;
     if (print_longest() != 0) return 1;

@@ -67,7 +67,10 @@ enum {
     SUMOPINE_COLUMN_OFF_DECK = 18,
     SUMOPINE_LIST_TOO_SHORT = 19,
     SUMOPINE_RANGE = 20,
-    SUMOPINE_COUNTS = 21
+    SUMOPINE_COUNTS = 21,
+    SUMOPINE_NOT_WHOLE = 24,
+    SUMOPINE_TEXT_TOO_SHORT = 25,
+    SUMOPINE_HIT_OBJECTS = 26
 };
 
 /* Converts a job record, with at most `allowance` draws, into a chart at the start of the chart buffer.
@@ -147,9 +150,9 @@ uint32_t sumopine_holds_at(const uint8_t *chart, size_t chart_len, double time, 
  * The chart is only read. */
 uint32_t sumopine_nearest_note(const uint8_t *chart, size_t chart_len, uint32_t column, double time, uint32_t *found, uint32_t *place);
 
-/* Writes a chart's sheet from the start of the sheet buffer: pages of 64 lines, each 40 characters and a line feed. A page's first line is `PAGE`
- * and its number, from 1; the other 63 show a note each, in chart order: its start in whole milliseconds, cut downward, in 9 places, a space, and
- * a place for each column, `o` for a circle, `#` for a hold, `.` for no note. Blank lines fill the last page.
+/* Writes a chart's sheet from the start of the sheet buffer: pages of 64 lines, each 40 characters and a line feed. A page's first line is
+ * `PAGE` and its number, from 1; the other 63 show a note each, in chart order: its start in whole milliseconds, cut downward, in 9 places,
+ * a space, and a place for each column, `o` for a circle, `#` for a hold, `.` for no note. Blank lines fill the last page.
  *
  * Returns   *length              the sheet buffer
  * 0         the sheet's bytes    the sheet; later bytes keep their values
@@ -158,6 +161,32 @@ uint32_t sumopine_nearest_note(const uint8_t *chart, size_t chart_len, uint32_t 
  *
  * n notes take (n + 62) / 63 pages, and one where n is 0. The chart is only read. */
 uint32_t sumopine_sheet(const uint8_t *chart, size_t chart_len, uint8_t *sheet, size_t sheet_len, uint64_t *length);
+
+/* Writes the notes of a chart of version 1 or 2 as hit object lines of the osu! file format, version 14, from the start of the text buffer: in
+ * chart order a circle as `x,192,time,1,0,0:0:0:0:` and a hold as `x,192,time,128,0,end:0:0:0:0:`, each ended by a line feed. Times are in
+ * milliseconds, and x is the least whole number not below column * 512 / columns. A line has 41 bytes at most. Objects and draws are not told.
+ *
+ * Returns   *length              the text buffer
+ * 0         the text's length    the lines; later bytes keep their values
+ * 14        0                    as lent: the chart is broken
+ * 24        0                    as lent: a start or a hold's exact end is not a whole number of milliseconds
+ * 25        0                    as lent: it is too short
+ *
+ * The checks are made in this order. The chart is only read. A chart without notes gives an empty text. */
+uint32_t sumopine_write_hit_objects(const uint8_t *chart, size_t chart_len, uint8_t *text, size_t text_len, uint64_t *length);
+
+/* Reads hit object lines of exactly these two shapes, and writes a chart of version 1 with so many columns and draws 0 from the start of the
+ * chart buffer: 8 bytes, and 17 for each line. Numbers are decimal without leading zeros, and at most 33,554,431. The column of a line is
+ * floor(x * columns / 512), at most the last. Every line ends with a line feed, the last too. An empty text is a chart without notes.
+ *
+ * Returns   *length               the chart buffer
+ * 0         the chart's length    the chart; later bytes keep their values
+ * 26        0                     as lent: the column count is not 1 to 9, a line has another shape, a number is above 33,554,431, an end is
+ *                                 not above its start, the lines are not in chart order, or there are more than 16,777,215 of them
+ * 11        0                     as lent: it is too short
+ *
+ * The checks are made in this order. The text is only read. sumopine_read_chart takes every chart that is made here. */
+uint32_t sumopine_read_hit_objects(const uint8_t *text, size_t text_len, uint32_t columns, uint8_t *chart, size_t chart_len, uint64_t *length);
 
 /* Kinds of an object. */
 enum { SUMOPINE_CIRCLE = 0, SUMOPINE_SLIDER = 1, SUMOPINE_SPINNER = 2, SUMOPINE_HOLD = 3 };
@@ -211,8 +240,8 @@ uint32_t sumopine_column_counts(float od_low, float od_high, float cs_low, float
  * 4, 5, 6, 20, 8   0          0
  *
  * The checks are made in this order: 4 for the multiplier, 5 for beat length and velocity, 6 for position, start, sound, repeats (at most
- * 299) and node sound, 20 where an end of the range is outside 0 to 131,072 (-0.0 is) or the lower is above the upper, 8 where the latest end is above
- * 33,554,431. */
+ * 299) and node sound, 20 where an end of the range is outside 0 to 131,072 (-0.0 is) or the lower is above the upper, 8 where the latest
+ * end is above 33,554,431. */
 uint32_t sumopine_slider_ends(double multiplier, double beat, double velocity, float x, float y, double start, uint32_t sound, uint32_t repeats,
                               uint32_t has_node, uint32_t node, double distance_low, double distance_high, uint64_t *earliest,
                               uint64_t *latest);

@@ -11,4 +11,5 @@ cargo run --release --offline --quiet -p library --bin objects -- 50000 1
 cargo run --release --offline --quiet -p library --bin announced -- 20000 20000 1
 cargo run --release --offline --quiet -p library --bin lookups -- 20000 1
 cargo run --release --offline --quiet -p library --bin sheets -- 2000 1
+cargo run --release --offline --quiet -p library --bin hit_objects -- 20000 20000 1
 echo "oracle: ok"

@@ -83,3 +83,15 @@ range = 20
 -- too many objects, or more sliders and spinners than objects
 abbrev pub counts : ℕ
 counts = 21
+
+-- a start or an exact end is not a whole number of milliseconds
+abbrev pub notWhole : ℕ
+notWhole = 24
+
+-- the text buffer is too short
+abbrev pub textTooShort : ℕ
+textTooShort = 25
+
+-- hit object lines, or their column count, that are not taken
+abbrev pub hitObjects : ℕ
+hitObjects = 26

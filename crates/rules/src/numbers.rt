@@ -40,3 +40,9 @@ pub const LIST_TOO_SHORT: u8 = 19;
 pub const RANGE: u8 = 20;
 
 pub const COUNTS: u8 = 21;
+
+pub const NOT_WHOLE: u8 = 24;
+
+pub const TEXT_TOO_SHORT: u8 = 25;
+
+pub const HIT_OBJECTS: u8 = 26;

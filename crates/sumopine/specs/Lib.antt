@@ -4,3 +4,4 @@ pub mod Notes
 pub mod Announced
 pub mod Lookups
 pub mod Sheets
+pub mod HitObjects

@@ -200,3 +200,12 @@ pub enum NearestEnd {
     /// Refusals 14, 17, 18.
     Refused { number: u8 },
 }
+
+/// How writing or reading hit object lines ends (document 02, change request 13).
+#[derive(Clone, Copy, Debug, PartialEq, Eq)]
+pub enum LinesEnd {
+    /// So many bytes stand at the buffer's start; later bytes keep their values.
+    Written { length: usize },
+    /// Refusals 14, 24 and 25 of the writer, 26 and 11 of the reader. The buffer is as it was lent.
+    Refused { number: u8 },
+}

@@ -1,0 +1,2 @@
+-- What survives writing and reading (`Claims`).
+pub mod Claims
