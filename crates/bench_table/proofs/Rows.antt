@@ -86,7 +86,7 @@ rounds-to-zero = refl
 
 -- ---- M: columns by the share of sliders and spinners
 
--- ten objects, so many of them spinners
+-- spinners, then circles
 abbrev shared : ℕ → ℕ → List Object
 shared spinners circles = replicate spinners (objectOf (double 0 1) 0 (Spinner (double 0 1))) ++ replicate circles (objectOf (double 0 1) 0 Circle)
 

@@ -76,7 +76,7 @@ unfoldable pub notesOf : Version → ℕ → List ℕ → List Note
 notesOf v zero s = []
 notesOf v (suc k) s = noteOf v s ∷ notesOf v k (drop (noteSizeIn v) s)
 
--- from index i on, s holds the bytes of so many notes
+-- the bytes from index i on are those of `count` notes, zero bits included
 unfoldable pub Holds : Version → List ℕ → ℕ → ℕ → Type 0
 Holds v s i count = take (noteSizeIn v * count) (drop i s) ≡ body v (notesOf v count (drop i s))
 
@@ -87,8 +87,8 @@ unfoldable pub lasts : Bool → ℕ → Bool
 lasts true d = ltb 0 (ticks (time d))
 lasts false d = eqb d 0
 
--- whether a note may stand in a chart of so many columns, after a note of rank `last`: its column is one of them; its times are from 0, with no NaN,
--- infinity or negative zero; starts do not fall, and of equal starts the column does not; and start plus duration, exact, is at most 33,554,431.
+-- Whether a note may follow one of rank `last` on a deck of `columns` columns: its column is on the deck; its times are finite and not negative, and
+-- not negative zero; starts do not fall, nor columns among equal starts; start plus duration, exact, is at most 33,554,431.
 -- Both starts are times, whose patterns order as they do (`ticks-leb`).
 unfoldable pub noteTests : ℕ → ℕ → Note → List Bool
 noteTests columns last n =

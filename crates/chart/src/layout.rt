@@ -12,6 +12,9 @@ pub const NOTE_SIZE: usize = 19;
 // A note of version 1.
 pub const OLD_NOTE_SIZE: usize = 17;
 
+// Notes of a chart: their count has 24 bits.
+pub const MOST_IN_CHART: u32 = 16777215;
+
 // A version's number in the header.
 pub fn number(version: Version) -> u8
     ensures { λ r. ⌜ r ≡ versionNumber version ⌝ }

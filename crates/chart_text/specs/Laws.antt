@@ -10,10 +10,10 @@ use lib.ListN.{length, getD, take}
 use lib.Seq.{take-suc}
 use Rattle.chart.specs.Layout.{chartSizeIn}
 use Rattle.chart.specs.declared.Version.{Version}
-use Rattle.chart.specs.declared.Version.the-variants.{One, Two}
+use Rattle.chart.specs.declared.Version.the-variants.{One}
 use Rattle.chart.specs.declared.Note.{Note}
 use Rattle.chart.specs.Chart.{Score, refused, accepted, reading, readingOf, decode, notesRead, notesIn, blank}
-use Rattle.chart.specs.Laws.Reader.{read-size}
+use Rattle.chart.specs.Laws.Reader.{notes-room}
 use Rattle.chart_text.specs.Text.{headLine, noteLine, noteLines, textOf, chartText, text}
 
 note-lines-more : (ns : List Note) (n : Note) → noteLines (ns ++ (n ∷ [])) ≡ noteLines ns ++ noteLine n
@@ -30,11 +30,7 @@ lines-more k ns h = rw (add-one k, take-suc ns k blank h) (note-lines-more (take
 
 -- ---- what the reader's answer says of the text
 
-least-size : (v : Version) (n : ℕ) → chartSizeIn One n ≤ chartSizeIn v n
-least-size One n = omega arith
-least-size Two n = omega arith
-
--- a chart of so many notes
+-- a chart of `notes` notes
 pub record Text (s : List ℕ) (columns notes draws : ℕ) : Type 0 where
   pub size : chartSizeIn One notes ≤ length s
   pub number : notes ≡ length (notesIn s)
@@ -49,7 +45,7 @@ module _ (s : List ℕ) where
       let same-columns : c .columns ≡ columns = cc in
       let same-notes : length (c .notes) ≡ notes = cc in
       let same-draws : c .draws ≡ draws = cc in
-      (rw (read-size s c e, ← same-notes) (least-size (c .version) (length (c .notes))), sym same-notes, rw (same-columns, same-notes, same-draws))
+      (rw (← same-notes) (notes-room s c e), sym same-notes, rw (same-columns, same-notes, same-draws))
 
   pub read-text : (v : Version) (columns notes draws : ℕ) → reading s ≡ accepted v columns notes draws → Text s columns notes draws
   unfolding reading text

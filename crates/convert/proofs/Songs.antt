@@ -77,7 +77,7 @@ module _ (bytes : List ℕ) (m : Summary) (k : Known bytes m) where
   abbrev numbers : Walk.Song
   numbers = numbersOf S (m .counts)
 
-  -- the parts as they are lent
+  -- the slices handed to the walk
   abbrev from : ℕ → List ℕ
   from i = take (length bytes - i) (drop i bytes)
 

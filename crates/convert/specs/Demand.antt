@@ -71,7 +71,7 @@ pub record Demand (bytes buffer : List ℕ) : Type 0 where
   pub only : (a b : ℕ) (r s : JobEnd) (x y : List ℕ) → Answers bytes buffer a r x → Answers bytes buffer b s y → Other r → Spent s → b < draws bytes buffer a
   -- and from them on it has the same answer and leaves the same bytes.
   pub same : (a b : ℕ) (r s : JobEnd) (x y : List ℕ) → Answers bytes buffer a r x → Answers bytes buffer b s y → Other r → draws bytes buffer a ≤ b → (r ≡ s) × (x ≡ y)
-  -- The draws are steps of the generator from the seed's state; a refusal tells them, and a chart has them in its header.
+  -- Draws are steps of the generator from the seed's state. Their number stands in a refusal, or in the chart's header.
   pub counted : (a : ℕ) (s : Song) → parse bytes ≡ accepted s
       → after (onWalk (OfSong.convert s (length buffer)) (tallied a 0 (seeded (seed (s .settings)))))
       ≡ tallied (a - draws bytes buffer a) (largest (ledger bytes buffer a .searches)) (steps (draws bytes buffer a) (seeded (seed (s .settings))))

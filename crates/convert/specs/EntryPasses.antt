@@ -14,7 +14,7 @@ use Rattle.mania.specs.Convert.{Walk, columnsOf, songFacts, meets, factsAt}
 use Rattle.mania.specs.Reached.{reaches}
 use Rattle.mania.specs.Single.{entryRefusal}
 
--- Of a record's bytes, whatever the single-object entry is lent besides.
+-- With the values of an accepted song the checks of the single-object entry pass, for every generator state.
 pub record EntryPasses (bytes : List ℕ) : Type 0 where
   -- the walk has come to w after k objects, from any state, and o is the next
   pub passes : (s : Song) → parse bytes ≡ accepted s → (k a n : ℕ) (r : Random) (w : Walk) → run (reaches s k) (values a r) ≡ ended w n

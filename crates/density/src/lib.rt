@@ -85,14 +85,14 @@ pub fn node_time(o: Object, length: u32, n: u32) -> f64
     o.start + (length as f64) * (n as f64)
 }
 
-// The first of the last seven of so many nodes.
+// The index of the first of the last seven of `count` nodes.
 fn last_seven(count: u32) -> u32
     ensures { λ r. ⌜ r ≡ count - 7 ⌝ }
 {
     if count < 7 { 0 } else { count - 7 }
 }
 
-// The density after the nodes of a slider, so many of them. Of seven times or more only the last seven tell.
+// After a slider's `count` nodes. The queue holds seven, so earlier nodes do not matter.
 pub fn nodes(d: Density, o: Object, length: u32, count: u32) -> Density
     requires { ⌜ Held d ⌝ }
     ensures { λ r. ⌜ Held r × (queued r ≡ Convert.nodes o length count 0 (queued d)) ⌝ }

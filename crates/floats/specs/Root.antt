@@ -14,7 +14,7 @@ unfoldable pub wholeRoot : ℕ → ℕ → ℕ
 wholeRoot zero n = 0
 wholeRoot (suc d) n = let r = 2 * wholeRoot d (n / 4) in cond (leb (square (r + 1)) n) (r + 1) r
 
--- how many binary digits of the root are dropped: it has half as many as n, and the format keeps the first `prec`
+-- binary digits of the root beyond the format's precision; a root has half as many digits as n
 abbrev pub dropped : Format → ℕ → ℕ
 dropped f n = (size n + 1) / 2 - prec f
 

@@ -12,7 +12,7 @@ use Rattle.generators.specs.Answers.{whole}
 use Rattle.generators.specs.declared.LentEnd.{LentEnd}
 use Rattle.generators.specs.declared.slider.Ask.{Ask}
 
--- what `generate` asks, of so many lent words and so much working space
+-- what `generate` requires: room for an object's notes in `words` words, and the working space `spare`
 abbrev pub Asks : Ask → ℕ → ℕ → Type 0
 Asks a words spare = Ready (a .g) spare × (mostNotes ≤ words)
 

@@ -23,7 +23,7 @@ use Rattle.hit_object_lines.specs.Lines.{Line, circle, hold, yPart, circ
 unfoldable pub isDigit : ℕ → Bool
 isDigit c = leb 48 c && leb c 57
 
--- a number with one more digit; one number stands for all above the largest
+-- appends a digit; saturates just above the largest number that is taken
 unfoldable pub withDigit : ℕ → ℕ → ℕ
 withDigit v c = min (v * 10 + (c - 48)) (latestEnd + 1)
 

@@ -13,7 +13,7 @@ ghost use Rattle.hit_object_lines.specs.Reading.{timeOf};
 ghost use Rattle.hit_object_lines.specs.Laws.Times.{InTime};
 ghost use Rattle.hit_object_lines.specs.Laws.Notes.{Standing};
 
-// The bit pattern of so many milliseconds.
+// The bit pattern of `ms` as an f64.
 pub fn time_of(ms: u32) -> u64
     ensures { λ r. ⌜ r ≡ timeOf ms ⌝ }
 {

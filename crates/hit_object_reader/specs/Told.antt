@@ -1,4 +1,4 @@
--- The code's answers: an index stands for the bytes from it on. Assumes nothing.
+-- The code's answers as the definitions' values: where the code gives the next index, a definition gives the remaining bytes. Assumes nothing.
 use mathlib.Core.Path.{_≡_}
 use mathlib.Core.List.{List, []}
 use mathlib.Core.Option.{Option, none, some, Option·getD}

@@ -8,6 +8,7 @@ use crate::rows::row_at;
 use chart::Note;
 use chart::Origin;
 use chart::layout::HEADER_SIZE;
+use chart::layout::MOST_IN_CHART;
 use chart::layout::OLD_NOTE_SIZE;
 use chart::order::precedes;
 use chart::rows::put_old_note;
@@ -31,9 +32,6 @@ pub enum Checked {
     Notes(u32),
     Refused,
 }
-
-// Notes of a chart: their count has 24 bits.
-const MOST_IN_CHART: u32 = 16777215;
 
 // Reads every line: whether it has its shape, and none comes before the one above it.
 fn check_lines(s: &[u8], columns: u8) -> Checked
@@ -103,7 +101,7 @@ fn read_with(s: &[u8], columns: u8, chart: &mut [u8]) -> Written
     }
 }
 
-// Makes a chart of version 1 with so many columns of a text, from the start of `chart`. The bytes after it keep their values; on a refusal all do.
+// Writes the chart of a text, version 1 with `columns` columns, from the start of `chart`. Later bytes keep their values; on a refusal all do.
 pub fn read_lines(s: &[u8], columns: u32, chart: &mut [u8]) -> Written
     ensures { λ r. ⌜ told r ≡ reading (now (s .entry)) columns (now (chart .entry)) .0 ⌝ }
     ensures { λ _. ⌜ now (chart .exit) ≡ reading (now (s .entry)) columns (now (chart .entry)) .1 ⌝ }

@@ -13,15 +13,12 @@ use Rattle.rules.specs.Numbers as Numbers
 use Rattle.floats.specs.Whole.{above}
 use Rattle.floats.specs.Ticks.{ticks}
 use Rattle.model.specs.Limits.{latestEnd}
-use Rattle.chart.specs.Layout.{noteSizeIn, chartSizeIn}
-use Rattle.chart.specs.declared.Version.{Version}
-use Rattle.chart.specs.declared.Version.the-variants.{One, Two}
 use Rattle.chart.specs.declared.Note.{Note}
 use Rattle.chart.specs.Time.{time}
 use Rattle.chart.specs.Tests.{both, passes}
 use Rattle.chart.specs.Bytes.{splice}
 use Rattle.chart.specs.Chart.{Score, decode, drawsOf, okChart, okHead, okRows, okNote, okNotes, headTests, versionOf, columnsOf, countOf, scoreOf}
-use Rattle.chart.specs.Laws.Reader.{read-score, notes-ok, read-size}
+use Rattle.chart.specs.Laws.Reader.{read-score, notes-ok, notes-room}
 use Rattle.text.specs.Laws.{decimal-most}
 use Rattle.chart_text.specs.Text.{refusalLine}
 use Rattle.hit_object_lines.specs.Lines.{circle, hold, Outcome, refused, written, stored, lineText, lineOf, xOf, startOf, endOf, millisecond, isWhole, allWhole, chartLines, writing, writingOf, writingNotes}
@@ -74,11 +71,6 @@ lines-most columns last (n ∷ ns) low few ok whole =
     let own = both (isWhole n) (allWhole ns) whole in
     omega (arith, length-append (lineText (lineOf columns n)) (chartLines columns ns), line-most columns last n low few (here .0) (own .0), lines-most columns _ ns low few (here .1) (own .1))
 
--- a note of version 1 is the shorter
-notes-least : (v : Version) (n : ℕ) → noteSizeIn One * n ≤ chartSizeIn v n
-notes-least One n = omega arith
-notes-least Two n = omega arith
-
 chart-most : (s : List ℕ) (c : Score) → decode s ≡ some c → allWhole (c .notes) ≡ true → length (chartLines (c .columns) (c .notes)) ≤ 4 * length s
 unfolding okChart okHead headTests scoreOf
 chart-most s c e whole =
@@ -89,7 +81,7 @@ chart-most s c e whole =
     let low : 0 < c .columns = rw columns at (leb-true 1 (columnsOf s) (tests 2)) in
     let few : c .columns ≤ 9 = rw columns at (leb-true (columnsOf s) 9 (tests 3)) in
     let most = lines-most (c .columns) 0 (c .notes) low few (notes-ok s c e) whole in
-    omega (arith, most, read-size s c e, notes-least (c .version) (length (c .notes)))
+    omega (arith, most, notes-room s c e)
 
 -- ---- the writer's answer
 
@@ -99,7 +91,7 @@ Result = Outcome × List ℕ
 no-number : {n k : ℕ} → refused n ≡ written k → ⊥
 no-number e = let y : _≡_ {A = ℕ} 0 1 = cc in omega arith
 
--- so many bytes were written: they are the lines
+-- where `k` bytes were written, they are the lines
 pub record Wrote (chart text : List ℕ) (k : ℕ) : Type 0 where
   pub long : k ≡ length (linesText chart)
   pub within : k ≤ length text

@@ -9,8 +9,8 @@ use borrow.Author.Tests.{le-leb}
 use Rattle.chart.specs.Bytes.{Bytes, splice}
 use Rattle.chart.specs.Laws.Bytes.{splice-none}
 use Rattle.chart.specs.Chart.{Score, decode}
+use Rattle.chart.specs.Laws.Reader.{notes-room}
 use Rattle.sheet.specs.Sheet.{Outcome, refused, written, sheet, given, putting, sheeted}
-use Rattle.sheet.specs.Laws.{notes-room}
 use Rattle.sheet.proofs.Claims.{claims}
 use Rattle.job_text.specs.Limits.{chartBytes, sheetBytes}
 use Rattle.job_text.specs.Printed.{sheetRead, sheetText}

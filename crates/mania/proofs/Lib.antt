@@ -1,5 +1,5 @@
 -- Laws of the rules. Demand 3 of songs: `Allowances` on draws, `Demand` on deck and lanes, from those of each generator (`EndLanes`, `CircleLanes`,
--- `SliderLanes`). Refusals: `Conditions`, from what each generator is refused by (`CircleEnds`, `SliderEnds`); `Sources`: what 9 and 10 stand for;
+-- `SliderLanes`). Refusals: `Conditions`, from the refusals of each generator (`CircleEnds`, `SliderEnds`); `Sources`: where 9 and 10 arise;
 -- `Reach`: why 9 and 10 don't come out of a song, from what each generator leaves (`CircleReach`, `SliderReach`; `Follows`); `Eight`, `Eleven`, and
 -- `Refuses` the other way round. `Singles`: the claims of the single-object entry; `OneRule`: a walk's step is one. `CircleDeck`, `SliderDeck`: what the
 -- next object meets; `Lists`: that this is a pattern with as many notes as its mask has ones. `Counts`, `MostNotes`: how many notes an object makes. `Limits`: how

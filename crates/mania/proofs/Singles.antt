@@ -170,7 +170,7 @@ module _ (f : Facts) (v : PrevValues) (columns : ℕ) (o : Object) (r : Random) 
   unfolding placed taken
   room-short n u = short-from (on rule d) refl n (within (Rule.refused tooShort n) u tt) (play-run (λ p. spentNumber) number roomy a 0 r ∙ ap (placed (λ p. spentNumber) number a most r) u)
 
-  -- what the object's rule comes to from the state
+  -- the answer for an outcome of the object's rule, from state r under allowance a
   abbrev at-rule : Outcome (Unit {0}) Refusal Made → Answer ℕ Made
   at-rule x = placed (λ p. spentNumber) number a (max 0 (longest rule (values a r))) r x
 

@@ -1,4 +1,4 @@
--- What 9 and 10 stand for: a search without a valid column, and a column off the deck. Assumes nothing.
+-- Where 9 and 10 arise: a search without a valid column, and a column off the deck. Assumes nothing.
 use mathlib.Core.Path.{_≡_, refl, sym, ap, subst}
 use Prim.Native.Nat.{ℕ, zero, suc, _+_, _-_, _%_, _≤_, _<_}
 use native.Mathlib.Omega.{arith}

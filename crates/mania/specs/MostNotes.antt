@@ -24,7 +24,7 @@ notesIn (ended made n) = length (made .notes)
 notesIn (refused r n) = 0
 notesIn (spent p n) = 0
 
--- an object that the single-object entry takes, and a state from which it makes so many notes
+-- an object that the single-object entry accepts, and a state from which it makes `notes` notes
 pub record MadeBy (notes : ℕ) : Type 0 where
   pub facts : Facts
   pub previous : PrevValues

@@ -41,11 +41,11 @@ LateAt s [] i = ⊥
 LateAt s (o ∷ os) zero = Late (factsAt s (beginning .density) o) o (o .kind)
 LateAt s (o ∷ os) (suc i) = LateAt s os i
 
--- 9: the object's rule, from the state r under the allowance a, comes to a search that has no valid column
+-- 9: run from state r under allowance a, the object's rule reaches a search that has no valid column
 abbrev pub NoValidColumn : Facts → PrevValues → ℕ → Object → Random → ℕ → Type 0
 NoValidColumn f v columns o r a = (n : ℕ) × (run (object f v columns o) (values a r) ≡ refused noColumn n)
 
--- 10: it comes to a column off the deck
+-- 10: it reaches a column off the deck
 abbrev pub OffTheDeck : Facts → PrevValues → ℕ → Object → Random → ℕ → Type 0
 OffTheDeck f v columns o r a = (n : ℕ) × (run (object f v columns o) (values a r) ≡ refused offDeck n)
 
@@ -54,22 +54,22 @@ pub record NoneValid (initial lower upper taken : ℕ) : Type 0 where
   pub first : free taken initial ≡ false
   pub range : (c : ℕ) → lower ≤ c → c < upper → free taken c ≡ false
 
--- 9 comes to this: of 8 columns, the previous pattern has columns 1 to 7 and not 0, so that it has each column which a search off it may give, and does not
--- fill the deck; a circle is not refused so
+-- 9 needs 8 columns and a previous pattern of exactly columns 1 to 7: it takes every column that a search may give, and does not fill the deck. A circle
+-- is never refused by 9
 unfoldable pub Blocked : PrevValues → ℕ → Kind → Type 0
 Blocked v columns Circle = ⊥
 Blocked v columns (Slider repeats distance node) = (columns ≡ 8) × (v .mask ≡ 254)
 Blocked v columns (Spinner duration) = (columns ≡ 8) × (v .mask ≡ 254)
 Blocked v columns (Hold duration) = (columns ≡ 8) × (v .mask ≡ 254)
 
--- and 10 to this: a circle of 8 columns in a reverse stair from column 0, the previous pattern's only one
+-- 10 needs 8 columns and a circle in a reverse stair from column 0, the previous pattern's only column
 unfoldable pub Below : Facts → PrevValues → ℕ → Object → Kind → Type 0
 Below f v columns o Circle = (columns ≡ 8) × (v .last ≡ 0) × (ones (v .mask) ≡ 1) × (contains (HitObject.new f v columns o .flags) reverseStair ≡ true)
 Below f v columns o (Slider repeats distance node) = ⊥
 Below f v columns o (Spinner duration) = ⊥
 Below f v columns o (Hold duration) = ⊥
 
--- What 9 and 10 stand for in the rules: `noColumn` is refused in a column search alone (PatternGenerator.antt), `offDeck` in `add` alone (Pattern.antt).
+-- Where 9 and 10 arise in the rules: only a column search refuses `noColumn` (PatternGenerator.antt), only `add` refuses `offDeck` (Pattern.antt).
 pub record Sources : Type 1 where
   -- A search is refused where no column is valid, before any draw,
   pub none : (next : Next) (columns initial lower upper taken : ℕ) → NoneValid initial lower upper taken → columnSearch next columns initial lower upper taken ≡ refuse noColumn

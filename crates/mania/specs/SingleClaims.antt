@@ -117,7 +117,7 @@ module _ (f : Facts) (v : PrevValues) (columns : ℕ) (o : Object) (r : Random) 
     pub one : (a k l : ℕ) → Condition a k → Condition a l → k ≡ l
     -- where none holds it makes notes
     pub otherwise : (a : ℕ) → ((k : ℕ) → Condition a k → ⊥) → MakesNotes a
-    -- 9 comes to this: no circle, and of 8 columns the previous pattern has 1 to 7 and not 0
+    -- 9 needs 8 columns, a previous pattern of exactly columns 1 to 7, and no circle
     pub blocked : (a : ℕ) → entryRefusal f v columns o ≡ 0 → NoValidColumn f v columns o r a → Blocked v columns (o .kind)
-    -- and 10 to this: a circle in a reverse stair of 8 columns from column 0
+    -- 10 needs 8 columns and a circle in a reverse stair from column 0
     pub off : (a : ℕ) → entryRefusal f v columns o ≡ 0 → OffTheDeck f v columns o r a → Below f v columns o (o .kind)

@@ -20,7 +20,7 @@ use Rattle.mania.specs.declared.Stair.the-variants.{Up, Reverse}
 use Rattle.mania.specs.Single.{Single, Answer, made, refusal}
 use Rattle.object_numbers.specs.declared.Told.{Told}
 
--- ---- what is lent
+-- ---- the host's numbers
 
 -- the largest numbers of a field of 8 and of 16 bits
 abbrev pub largest8 : ℕ

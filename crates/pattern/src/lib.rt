@@ -120,7 +120,7 @@ pub fn with_column(mask: u16, c: u8) -> u16
     mask | (1 << c)
 }
 
-// A pattern's column count: the ones of its mask, which are as many as the columns that it lists.
+// The number of columns in a pattern's mask.
 pub fn column_count(mask: u16) -> u32
     ensures { λ r. ⌜ (r ≡ ones mask) × (r ≡ length (listed mask 0 16)) ⌝ }
 {

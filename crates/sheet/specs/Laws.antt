@@ -23,14 +23,13 @@ use Rattle.floats.specs.Laws.Wholes.{count-value}
 use Rattle.model.specs.Limits.{latestEnd}
 use Rattle.chart.specs.declared.Note.{Note}
 use Rattle.chart.specs.declared.Version.{Version}
-use Rattle.chart.specs.declared.Version.the-variants.{One, Two}
-use Rattle.chart.specs.Layout.{chartSizeIn, mostInChart}
+use Rattle.chart.specs.Layout.{mostInChart}
 use Rattle.chart.specs.Time.{time}
 use Rattle.chart.specs.Tests.{never}
 use Rattle.chart.specs.Laws.Times.{ticks-size}
 use Rattle.chart.specs.Bytes.{Bytes, splice}
 use Rattle.chart.specs.Chart.{Score, accepted, readingOf, decode, notesRead, notesIn, blank}
-use Rattle.chart.specs.Laws.Reader.{read-size, accepted-score, notes-ok, notes-times, columns-few, notes-few, note-bounds}
+use Rattle.chart.specs.Laws.Reader.{accepted-score, notes-ok, notes-times, columns-few, notes-few, note-bounds}
 use Rattle.text.specs.Text.{ascii, space, decimal, right, left}
 use Rattle.text.specs.Laws.{decimal-fits, length-right, length-left}
 use Rattle.sheet.specs.Layout.{pageLines, pageNotes, lineWidth, lineSize, numberWidth, wordWidth, startWidth}
@@ -168,14 +167,6 @@ fits-read s c b e =
         start = record { finite = notes-times (c .columns) 0 (c .notes) (notes-ok s c e) i blank h .0; in-time = note-bounds s c e i h .1 };
       };
     }
-
--- its notes are within its bytes; those of version 1 are the shorter
-pub notes-room : (s : List ℕ) (c : Score) → decode s ≡ some c → chartSizeIn One (length (c .notes)) ≤ length s
-notes-room s c e = rw (read-size s c e) (least (c .version) (length (c .notes)))
-  where
-    least : (v : Version) (n : ℕ) → chartSizeIn One n ≤ chartSizeIn v n
-    least One n = omega arith
-    least Two n = omega arith
 
 -- what the reader's answer says
 pub record Known (s : List ℕ) (columns count : ℕ) : Type 0 where

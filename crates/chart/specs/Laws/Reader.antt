@@ -163,6 +163,14 @@ read-size s c e =
     let size = head-size s (both (okHead s) (okRows (versionOf s) (columnsOf s) 0 (countOf s) (drop 8 s)) (k .0) .0) in
     rw (← (k .1), length-notesOf (versionOf s) (countOf s) (drop 8 s)) size
 
+-- so its notes are within its bytes; a note of version 1 is the shorter
+pub notes-room : (s : List ℕ) (c : Score) → decode s ≡ some c → chartSizeIn One (length (c .notes)) ≤ length s
+notes-room s c e = rw (read-size s c e) (least (c .version) (length (c .notes)))
+  where
+    least : (v : Version) (n : ℕ) → chartSizeIn One n ≤ chartSizeIn v n
+    least One n = omega arith
+    least Two n = omega arith
+
 -- of fewer bytes than a header none is found
 pub note-short : (s : List ℕ) (i : ℕ) → length s < 8 → none ≡ noteIn s i
 unfolding noteBy

@@ -20,7 +20,7 @@ use Rattle.chart.specs.Laws.Reader.{note-fits}
 use Rattle.hit_object_lines.specs.Lines.{circle, hold, millisecond, startOf, endOf, isWhole, xOf, lineOf}
 use Rattle.hit_object_lines.specs.Laws.Times.{InTime, one-ms, most-ms, in-start, in-duration}
 
--- what a chart of so many columns says of each of its notes
+-- what the chart reader has checked of a note, with `columns` columns
 pub record Standing (columns : ℕ) (n : Note) : Type 0 where
   pub on-deck : n .column < columns
   pub start-time : n .start < infinity

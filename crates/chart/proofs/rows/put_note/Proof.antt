@@ -1,4 +1,4 @@
--- `chart::rows::put_note` meets its contract. The splice, the one in front of it and the one behind are one splice of the note's bytes (`note-put-mid`).
+-- `chart::rows::put_note` meets its contract. Storing start, head and duration in turn stores the note's bytes (`note-put-mid`).
 -- Assumes nothing.
 use mathlib.Core.Path.{refl, _∙_}
 use Rattle.chart.specs.declared.Version.the-variants.{Two}
