@@ -1,4 +1,6 @@
 // Songs announced with rounded figures: od, cs and a slider's distance are known only as ranges.
+#![tactic(auto)]
+
 ghost use Rattle.std.specs.Prelude.{◌≡◌, ◌+◌, ◌-◌, ◌<◌, ◌≤◌, ◌^◌, suc};
 ghost use Rattle.mania.specs.PathObject as Path;
 ghost use Rattle.announced.specs.Announced.{setting_fits, distance_fits, columns_refusal, ColumnsAre, facts_of, object_of, end_at, rest_refusal, EndsAre};
@@ -10,21 +12,21 @@ use model::{Distance, Kind, NodeSound, Object, Position, limits};
 use rules::numbers;
 
 // A range of od or cs, ends included.
-#[derive(Drop)]
+#[derive(Clone, Copy)]
 pub struct SettingRange {
     pub low: f32,
     pub high: f32,
 }
 
 // A range of a slider's distance, ends included.
-#[derive(Drop)]
+#[derive(Clone, Copy)]
 pub struct DistanceRange {
     pub low: f64,
     pub high: f64,
 }
 
 // A slider without its distance, and the facts in force at it.
-#[derive(Drop)]
+#[derive(Clone, Copy)]
 pub struct Slider {
     pub multiplier: f64,
     pub beat: f64,
@@ -37,14 +39,14 @@ pub struct Slider {
 }
 
 // The column counts that are possible, a bit for each, or a refusal's number.
-#[derive(Drop)]
+#[derive(Clone, Copy)]
 pub enum Columns {
     Among(u16),
     Refused(u8),
 }
 
 // The earliest and the latest end, or a refusal's number.
-#[derive(Drop)]
+#[derive(Clone, Copy)]
 pub enum Ends {
     Between(u32, u32),
     Refused(u8),

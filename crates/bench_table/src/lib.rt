@@ -1,1 +1,2 @@
 // Document 01's bench table, computed on the definition, in proofs/. No code.
+#![tactic(auto)]

@@ -1,4 +1,6 @@
 // Fields of bits in a byte slice, most significant bit first, with no gaps.
+#![tactic(auto)]
+
 ghost use Rattle.std.specs.Prelude.{◌≡◌, ◌+◌, ◌-◌, ◌*◌, ◌/◌, ◌%◌, ◌^◌, ◌≤◌, ◌<◌, min, length, get_or};
 ghost use Rattle.bits.specs.Field.{bits, short};
 

@@ -1,18 +1,20 @@
 // The chart: its notes, and a note in bytes.
+#![tactic(auto)]
+
 pub mod bytes;
 pub mod layout;
 pub mod order;
 pub mod rows;
 
 // The version of a chart's layout. The converter writes version 2.
-#[derive(Drop)]
+#[derive(Clone, Copy)]
 pub enum Version {
     One,
     Two,
 }
 
 // The object that a note was made from, by its index in the record. A chart of version 1 does not tell it.
-#[derive(Drop)]
+#[derive(Clone, Copy)]
 pub enum Origin {
     Untold,
     Object(u16),
@@ -20,7 +22,7 @@ pub enum Origin {
 
 // A note of the chart. Its start and its duration are the bit patterns of two f64.
 #[repr(C)]
-#[derive(Drop)]
+#[derive(Clone, Copy)]
 pub struct Note {
     pub column: u8,
     pub hold: bool,
@@ -30,7 +32,7 @@ pub struct Note {
 }
 
 // What the chart reader answers; `meaning` of specs/Chart.antt gives document 01's number.
-#[derive(Drop)]
+#[derive(Clone, Copy)]
 pub enum Answer {
     Chart {
         version: Version,
@@ -42,7 +44,7 @@ pub enum Answer {
 }
 
 // The note of an index.
-#[derive(Drop)]
+#[derive(Clone, Copy)]
 pub enum Found {
     At(Note),
     Nothing,

@@ -1,4 +1,6 @@
 // Finding notes around a moment, in a chart's bytes.
+#![tactic(auto)]
+
 mod covering;
 pub mod nearest;
 mod starting;
@@ -16,14 +18,14 @@ use floats::is_finite;
 use rules::numbers;
 
 // Which notes a list lookup asks for: those that start within two times, ends included; or the holds that cover an instant.
-#[derive(Drop)]
+#[derive(Clone, Copy)]
 pub enum Wanted {
     Starting { from: f64, to: f64 },
     Covering { at: f64 },
 }
 
 // What a list lookup answers: how many places it wrote, at least one; that there is none; or a refusal's number.
-#[derive(Drop)]
+#[derive(Clone, Copy)]
 pub enum Listed {
     Places(u32),
     Nothing,

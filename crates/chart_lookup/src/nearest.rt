@@ -15,7 +15,7 @@ use floats::is_finite;
 use rules::numbers;
 
 // What the lookup answers: the place of the note; that its column has none; or a refusal's number.
-#[derive(Drop)]
+#[derive(Clone, Copy)]
 pub enum Sought {
     Place(u32),
     Nothing,

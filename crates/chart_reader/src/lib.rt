@@ -1,4 +1,6 @@
 // The chart reader.
+#![tactic(auto)]
+
 pub mod time;
 
 ghost use Rattle.std.specs.Prelude.{◌≡◌, ◌≤◌, ◌<◌, length, get_or, drop};

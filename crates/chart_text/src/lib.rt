@@ -1,4 +1,6 @@
 // The text of a chart, as `charttext` prints it: one line at a time into a lent buffer, or a whole chart.
+#![tactic(auto)]
+
 ghost use Rattle.std.specs.Prelude.{◌≡◌, ◌+◌, ◌*◌, ◌≤◌, ◌<◌, length};
 ghost use Rattle.chart.specs.Bytes.{splice};
 ghost use Rattle.chart.specs.Chart.{notes_in};

@@ -1,4 +1,6 @@
 // The chart writer: the notes in order, in place, and the header.
+#![tactic(auto)]
+
 pub mod merge;
 pub mod order;
 

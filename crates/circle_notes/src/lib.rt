@@ -1,4 +1,6 @@
 // pattern_generator/hit_object.rs: the notes of each of a circle's patterns. Their columns are written into a lent buffer, one word a note, in walk order.
+#![tactic(auto)]
+
 ghost use Rattle.std.specs.Prelude.{◌≡◌, ◌+◌, ◌-◌, ◌≤◌, ◌<◌, min, length};
 ghost use Rattle.std.specs.Int.Count.{ones};
 ghost use Rattle.rules.specs.Rule.{if◌then◌else◌};

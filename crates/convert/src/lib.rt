@@ -1,4 +1,6 @@
 // The job: a record is read, its objects are converted one after another, and the chart is written.
+#![tactic(auto)]
+
 ghost use Rattle.std.specs.Prelude.{◌≡◌, ◌≤◌, length, replicate};
 ghost use Rattle.job.specs.Job.{job};
 ghost use Rattle.record.specs.Record.{song_of};
@@ -14,7 +16,7 @@ use rules::numbers;
 use walk::{PointCounts, Song, WalkEnd};
 
 // How a job ends: with the chart's length in bytes and the most draws of one search, or with a refusal's number, the object's index and the draws so far.
-#[derive(Drop)]
+#[derive(Clone, Copy)]
 pub enum JobEnd {
     Chart(usize, u32),
     Refused(u8, u32, u32),

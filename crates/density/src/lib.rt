@@ -1,4 +1,6 @@
 // The density: the last seven times, and the time between them. `LimitedQueue` and `compute_density` of the Rust.
+#![tactic(auto)]
+
 ghost use Rattle.std.specs.Prelude.{◌≡◌, ◌-◌, ◌≤◌, take};
 ghost use Rattle.mania.specs.LimitedQueue.{density_of, compute_density, unknown_density};
 ghost use Rattle.mania.specs.Convert as Convert;
@@ -8,7 +10,7 @@ ghost use Rattle.density.specs.Queued.{Held, queued, pushed};
 use model::Object;
 
 // The first `len` of the times count, oldest first.
-#[derive(Drop)]
+#[derive(Clone, Copy)]
 pub struct Density {
     pub times: [f64; 7],
     pub len: u8,

@@ -1,4 +1,6 @@
 // The generator of a spinner or a hold: one note.
+#![tactic(auto)]
+
 ghost use Rattle.std.specs.Prelude.{◌≡◌, ◌≤◌, ◌<◌, length, eqb};
 ghost use Rattle.std.specs.Int.Count.{ones};
 ghost use Rattle.rules.specs.Rule.{if◌then◌else◌};

@@ -1,4 +1,6 @@
 // The checks of the single-object entry on the values that it is given, in their order. Each is total: a NaN is out of every range.
+#![tactic(auto)]
+
 ghost use Rattle.std.specs.Prelude.{◌≡◌, ◌^◌, ◌≤◌};
 ghost use Rattle.mania.specs.Single.{pattern_fits, settings_fit, points_fit, position_fits, distance_fits, node_fits, kind_fits, object_fits, entry_refusal};
 ghost use Rattle.entry.specs.Parts.{last_fits};

@@ -1,5 +1,7 @@
 // Times compared exactly: the sum of two with a third, by their bit patterns. Every function is for the patterns below that of infinity, which are
 // the times from 0 on.
+#![tactic(auto)]
+
 pub mod moments;
 
 ghost use Rattle.std.specs.Prelude.{◌≡◌, ◌+◌, ◌*◌, ◌^◌, ◌≤◌, ◌<◌};
@@ -11,7 +13,7 @@ ghost use Rattle.exact_times.specs.Digits.{digits_of, power_of, Number};
 
 use floats::format::LEAD;
 
-#[derive(Drop)]
+#[derive(Clone, Copy)]
 pub enum Order {
     Less,
     Equal,

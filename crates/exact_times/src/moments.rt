@@ -58,7 +58,7 @@ pub fn nearer_at(first: u64, second: u64, t: u64) -> bool
 }
 
 // A finite f64: the bit pattern of a time from 0 on, or negative.
-#[derive(Drop)]
+#[derive(Clone, Copy)]
 pub enum Moment {
     At(u64),
     Before,

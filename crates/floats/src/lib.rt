@@ -1,4 +1,6 @@
 // Whole numbers of floats, worked out from bits.
+#![tactic(auto)]
+
 pub mod format;
 
 ghost use Rattle.std.specs.Prelude.{◌≡◌, ◌+◌, ◌-◌, ◌*◌, ◌/◌, ◌%◌, ◌^◌, ◌<◌, ◌≤◌, min, false};
@@ -14,7 +16,7 @@ ghost use Rattle.floats.specs.Least.{least, greatest, clamped};
 use format::{INFINITY, INFINITY_F32, LEAD, LEAD_F32, SIGN, SIGN_F32};
 
 // How a number is taken to a whole one: toward zero, down, up, or to the nearest, a tie to the even one.
-#[derive(Drop)]
+#[derive(Clone, Copy)]
 pub enum Way {
     Cut,
     Floor,

@@ -1,5 +1,7 @@
 // The three generators where the state is lent, each thin over its function by value. All are lent the same: the state, the words that get the notes, and
 // the working space of sliders.
+#![tactic(auto)]
+
 ghost use Rattle.std.specs.Prelude.{◌≡◌};
 ghost use Rattle.generators.specs.Answers.{whole};
 
@@ -12,14 +14,14 @@ pub mod slider;
 pub mod spinner;
 
 // The result of a generator that alters a `&mut Random`: of the draws after it only the tally is left to give.
-#[derive(Drop)]
+#[derive(Clone, Copy)]
 pub enum LentEnd {
     Made(Pattern, Stair, Tally),
     Refused(u8, Tally),
 }
 
 // The state that a generator left, and what it gives.
-#[derive(Drop)]
+#[derive(Clone, Copy)]
 pub struct Turn {
     pub random: Random,
     pub end: LentEnd,

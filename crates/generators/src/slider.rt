@@ -14,7 +14,7 @@ use pattern::ObjectEnd;
 use random::{Draws, Random, Tally};
 
 // What the generator is asked: the tally of the draws, and what the patterns are made from.
-#[derive(Drop)]
+#[derive(Clone, Copy)]
 pub struct Ask {
     pub tally: Tally,
     pub g: PathObjectPatternGenerator,

@@ -1,4 +1,6 @@
 // pattern_generator/hit_object.rs: the generator of a circle's pattern. Its columns are written into a lent buffer, one word a note, in walk order.
+#![tactic(auto)]
+
 ghost use Rattle.std.specs.Prelude.{◌≡◌, ◌&&◌, ◌≤◌, ◌<◌, map, length, take};
 ghost use Rattle.random.specs.Play.{on};
 ghost use Rattle.mania.specs.PatternType.{contains, reverse, force_stack};

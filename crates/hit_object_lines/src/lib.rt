@@ -1,4 +1,6 @@
 // Hit object lines of the osu! file format, version 14: a line for each note of a chart.
+#![tactic(auto)]
+
 pub mod lines;
 pub mod times;
 
@@ -16,14 +18,14 @@ use chart_reader::{note_of, read};
 use rules::numbers;
 
 // How many bytes were written, or the number of a refusal.
-#[derive(Drop)]
+#[derive(Clone, Copy)]
 pub enum Written {
     Length(usize),
     Refused(u8),
 }
 
 // The length of a chart's lines, if every time is a whole number of milliseconds.
-#[derive(Drop)]
+#[derive(Clone, Copy)]
 pub enum Size {
     Bytes(usize),
     NotWhole,

@@ -7,14 +7,14 @@ ghost use Rattle.hit_object_reader.specs.Told.{number_told, number_in};
 use model::limits::LATEST_END;
 
 // A number, and the index after it.
-#[derive(Drop)]
+#[derive(Clone, Copy)]
 pub enum Number {
     Of { value: u32, next: usize },
     Nothing,
 }
 
 // A run of digits: its number, or one above the largest, and the index after it.
-#[derive(Drop)]
+#[derive(Clone, Copy)]
 pub struct Digits {
     pub value: u32,
     pub next: usize,

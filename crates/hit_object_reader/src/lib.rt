@@ -1,4 +1,6 @@
 // Hit object lines of the osu! file format, read: their notes, as a chart of version 1.
+#![tactic(auto)]
+
 pub mod digits;
 pub mod parts;
 pub mod rows;
@@ -23,7 +25,7 @@ use hit_object_lines::Written;
 use rules::numbers;
 
 // The number of notes of a text that is taken.
-#[derive(Drop)]
+#[derive(Clone, Copy)]
 pub enum Checked {
     Notes(u32),
     Refused,

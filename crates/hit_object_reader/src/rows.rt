@@ -11,14 +11,14 @@ use chart::{Note, Origin};
 use hit_object_lines::times::time_of;
 
 // x and the start, and the index after them.
-#[derive(Drop)]
+#[derive(Clone, Copy)]
 pub enum Head {
     Of { x: u32, start: u32, next: usize },
     Nothing,
 }
 
 // What a line says, and the index after it.
-#[derive(Drop)]
+#[derive(Clone, Copy)]
 pub enum Line {
     Circle {
         x: u32,
@@ -35,7 +35,7 @@ pub enum Line {
 }
 
 // A line's note, and the index after it.
-#[derive(Drop)]
+#[derive(Clone, Copy)]
 pub enum Row {
     Note { note: Note, next: usize },
     Nothing,

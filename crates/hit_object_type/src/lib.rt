@@ -1,4 +1,6 @@
 // The convert type of a circle, and the chances of its notes.
+#![tactic(auto)]
+
 ghost use Rattle.std.specs.Prelude.{◌≡◌, ◌<◌};
 ghost use Rattle.rules.specs.Rule.{if◌then◌else◌};
 ghost use Rattle.random.specs.Play.{on};

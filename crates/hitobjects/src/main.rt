@@ -1,4 +1,6 @@
 // Reads an input and prints what `job_lines` says of it. Contracts cannot speak of what is read or written, so `main` does nothing else.
+#![tactic(auto)]
+
 use job_lines::{LINES_BYTES, put_printed};
 use job_text::limits::INPUT_BYTES;
 

@@ -1,1 +1,2 @@
 // Jobs on record bytes: their definition and what is claimed of them, in specs/. No code.
+#![tactic(auto)]

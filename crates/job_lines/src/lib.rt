@@ -1,4 +1,6 @@
 // What `hitobjects` prints for an input: the hit object lines of its job. The program itself only reads and writes.
+#![tactic(auto)]
+
 ghost use Rattle.std.specs.Prelude.{◌≡◌, ◌+◌, ◌*◌, ◌≤◌, length};
 ghost use Rattle.chart.specs.Bytes.{splice};
 ghost use Rattle.job.specs.Job.{job};

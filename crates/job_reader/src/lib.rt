@@ -1,4 +1,6 @@
 // The job reader: every condition of a record, in record order.
+#![tactic(auto)]
+
 ghost use Rattle.std.specs.Prelude.{◌≡◌, ◌≤◌};
 ghost use Rattle.record.specs.Header.{SmallCounts};
 ghost use Rattle.record.specs.Object.{objects};

@@ -1,4 +1,6 @@
 // What `charttext` prints for an input: the text of its job. The program itself only reads and writes.
+#![tactic(auto)]
+
 pub mod limits;
 pub mod sheets;
 

@@ -1,10 +1,12 @@
 // The data of the conversion, shared by its code and its rules. The rules are in specs/.
+#![tactic(auto)]
+
 use model::Position;
 
 // ---- what an object meets
 
 // The facts in force at an object.
-#[derive(Drop)]
+#[derive(Clone, Copy)]
 pub struct Facts {
     pub difficulty: f64,
     pub multiplier: f64,
@@ -15,14 +17,14 @@ pub struct Facts {
 }
 
 // `STAIR` and `REVERSE_STAIR`.
-#[derive(Drop)]
+#[derive(Clone, Copy)]
 pub enum Stair {
     Up,
     Reverse,
 }
 
 // What the objects before left: `PrevValues`. The previous pattern is its mask and its last column.
-#[derive(Drop)]
+#[derive(Clone, Copy)]
 pub struct PrevValues {
     pub time: f64,
     pub position: Position,
@@ -34,7 +36,7 @@ pub struct PrevValues {
 // ---- what an object makes
 
 // A note of a chart. A circle's duration is 0.
-#[derive(Drop)]
+#[derive(Clone, Copy)]
 pub struct Note {
     pub column: u8,
     pub hold: bool,
@@ -43,7 +45,7 @@ pub struct Note {
 }
 
 // A slider's note in whole milliseconds: a circle where its two times are equal.
-#[derive(Drop)]
+#[derive(Clone, Copy)]
 pub struct SliderNote {
     pub column: u8,
     pub start: u32,
@@ -53,14 +55,14 @@ pub struct SliderNote {
 // ---- the generators
 
 // How a search goes on from a column that is taken: by draws, or by steps of one.
-#[derive(Drop)]
+#[derive(Clone, Copy)]
 pub enum Next {
     Draw,
     Step,
 }
 
 // `HitObjectPatternGenerator`: what a circle's pattern is made from. `flags` is its convert type.
-#[derive(Drop)]
+#[derive(Clone, Copy)]
 pub struct HitObjectPatternGenerator {
     pub columns: u8,
     pub x: f32,
@@ -74,7 +76,7 @@ pub struct HitObjectPatternGenerator {
 }
 
 // The chances of 2 to 5 notes of a circle.
-#[derive(Drop)]
+#[derive(Clone, Copy)]
 pub struct CircleChances {
     pub p2: f64,
     pub p3: f64,
@@ -83,7 +85,7 @@ pub struct CircleChances {
 }
 
 // The chances of a note at the centre, and of two and of three notes at each side.
-#[derive(Drop)]
+#[derive(Clone, Copy)]
 pub struct MirrorChances {
     pub centre: f64,
     pub p2: f64,
@@ -92,7 +94,7 @@ pub struct MirrorChances {
 
 // `PathObjectPatternGenerator`: what a slider's pattern is made from. Times are whole milliseconds; `length` is that of one span, `head` the first
 // node's sound, and `flags` is its convert type.
-#[derive(Drop)]
+#[derive(Clone, Copy)]
 pub struct PathObjectPatternGenerator {
     pub columns: u8,
     pub x: f32,

@@ -1,9 +1,11 @@
 // The data of a song, shared by the record and the conversion.
+#![tactic(auto)]
+
 pub mod limits;
 pub mod sound;
 
 // The settings of a song.
-#[derive(Drop)]
+#[derive(Clone, Copy)]
 pub struct Settings {
     pub hp: f32,
     pub cs: f32,
@@ -12,55 +14,55 @@ pub struct Settings {
     pub multiplier: f64,
 }
 
-#[derive(Drop)]
+#[derive(Clone, Copy)]
 pub struct BreakPeriod {
     pub start: f64,
     pub end: f64,
 }
 
 // The beat length from a time on.
-#[derive(Drop)]
+#[derive(Clone, Copy)]
 pub struct TimingPoint {
     pub time: f64,
     pub beat: f64,
 }
 
 // The slider velocity from a time on.
-#[derive(Drop)]
+#[derive(Clone, Copy)]
 pub struct DifficultyPoint {
     pub time: f64,
     pub velocity: f64,
 }
 
 // Kiai or not from a time on.
-#[derive(Drop)]
+#[derive(Clone, Copy)]
 pub struct EffectPoint {
     pub time: f64,
     pub kiai: bool,
 }
 
-#[derive(Drop)]
+#[derive(Clone, Copy)]
 pub struct Position {
     pub x: f32,
     pub y: f32,
 }
 
 // A slider's distance. A missing one counts as 0.
-#[derive(Drop)]
+#[derive(Clone, Copy)]
 pub enum Distance {
     Missing,
     Given(f64),
 }
 
 // The sound of a slider's first node. A missing one is the object's own.
-#[derive(Drop)]
+#[derive(Clone, Copy)]
 pub enum NodeSound {
     Missing,
     Given(u8),
 }
 
 // What an object is. A spinner's duration and a slider's distance travel inside it.
-#[derive(Drop)]
+#[derive(Clone, Copy)]
 pub enum Kind {
     Circle,
     Slider {
@@ -73,7 +75,7 @@ pub enum Kind {
 }
 
 // An object is a position, a start and a kind; its sound comes with it, as `hit_sounds` does in the Rust.
-#[derive(Drop)]
+#[derive(Clone, Copy)]
 pub struct Object {
     pub position: Position,
     pub start: f64,

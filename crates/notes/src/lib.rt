@@ -1,4 +1,6 @@
 // An object's notes, from the words that its generator left to the bytes of a chart.
+#![tactic(auto)]
+
 ghost use Rattle.std.specs.Prelude.{◌≡◌, map, ◌+◌, ◌*◌, ◌≤◌, ◌<◌, length, take};
 ghost use Rattle.chart.specs.Layout.{note_size, indices};
 ghost use Rattle.chart.specs.declared.Version.TheVariants.{Two};

@@ -1,4 +1,6 @@
 // The notes of one object, by its kind, for the walk and for the single-object entry.
+#![tactic(auto)]
+
 ghost use Rattle.std.specs.Prelude.{◌≡◌, ◌^◌, ◌≤◌, ◌<◌, length};
 ghost use Rattle.model.specs.Limits.{latest_start, most_notes, most_repeats};
 ghost use Rattle.random.specs.Play.{on};

@@ -1,4 +1,6 @@
 // An object's values from the numbers that a host lends, and its answer as numbers. Assumes nothing.
+#![tactic(auto)]
+
 ghost use Rattle.std.specs.Prelude.{◌≡◌, List, ℕ};
 ghost use Rattle.single.specs.Ends.{single_end};
 ghost use Rattle.object_numbers.specs.Single.{saturate8, saturate16, is_set, distance_of, node_of, kind_of, object_of, facts_of, stair_of, previous_of, stair_number, told};
@@ -9,7 +11,7 @@ use random::Random;
 use single::SingleEnd;
 
 // An answer: the refusal's number, or 0, and what the outputs get.
-#[derive(Drop)]
+#[derive(Clone, Copy)]
 pub struct Told {
     pub number: u32,
     pub count: u32,

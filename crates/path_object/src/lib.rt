@@ -1,5 +1,7 @@
 // pattern_generator/path_object.rs: the patterns of a slider. Each function is a rule of mania/specs/PathObject.antt, and writes its notes into the
 // lent buffer.
+#![tactic(auto)]
+
 ghost use Rattle.std.specs.Prelude.{◌≡◌, leb, ltb, ◌-◌, ◌*◌, ◌≤◌, ◌<◌, length};
 ghost use Rattle.model.specs.Limits.{most_notes};
 ghost use Rattle.mania.specs.PatternType.{force_not_stack, ◌⊔ₜ◌};

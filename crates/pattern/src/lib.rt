@@ -1,4 +1,6 @@
 // Masks of columns, columns of positions, counts of notes and the search for a column, shared by the three generators.
+#![tactic(auto)]
+
 ghost use Rattle.std.specs.Prelude.{◌≡◌, ◌-◌, ◌^◌, ◌≤◌, ◌<◌, length};
 ghost use Rattle.std.specs.Int.Bits.{bit_or};
 ghost use Rattle.std.specs.Int.Count.{ones};
@@ -17,21 +19,21 @@ use random::{Drawn, Draws};
 use rules::numbers;
 
 // What a rule that ends in a number gives: that number, or the number of a refusal, and the draws after it.
-#[derive(Drop)]
+#[derive(Clone, Copy)]
 pub enum Number {
     Given(u8, Draws),
     Refused(u8, Draws),
 }
 
 // What a search for a column gives: the column, how many draws the search made, and the draws after it; or the number of a refusal.
-#[derive(Drop)]
+#[derive(Clone, Copy)]
 pub enum Search {
     Found(u8, u32, Draws),
     Refused(u8, Draws),
 }
 
 // A pattern: the mask of its columns, its last column, and how many words of a lent buffer are its notes.
-#[derive(Drop)]
+#[derive(Clone, Copy)]
 pub struct Pattern {
     pub mask: u16,
     pub last: u8,
@@ -39,7 +41,7 @@ pub struct Pattern {
 }
 
 // A pattern, or the number of a refusal, and the draws after it.
-#[derive(Drop)]
+#[derive(Clone, Copy)]
 pub enum Placed {
     Notes(Pattern, Draws),
     Refused(u8, Draws),
@@ -47,7 +49,7 @@ pub enum Placed {
 
 // What an object's generator gives: its notes in walk order, with the mask and last column that the next object meets, and the stair; or the number of
 // a refusal; and the draws after it.
-#[derive(Drop)]
+#[derive(Clone, Copy)]
 pub enum ObjectEnd {
     Made(Pattern, Stair, Draws),
     Refused(u8, Draws),

@@ -1,4 +1,6 @@
 // The control point in force at a time, found in the record's bytes.
+#![tactic(auto)]
+
 ghost use Rattle.std.specs.Prelude.{◌≡◌, ◌≤◌};
 ghost use Rattle.model.specs.Limits.{most_entries};
 ghost use Rattle.model.specs.ControlPoint.{beat_at, velocity_at, kiai_at};
@@ -17,7 +19,7 @@ use record::section::{Section, width_of};
 const AFTER_ALL: f64 = limits::MOST_SPAN + 1.0;
 
 // How many points of a list are passed from one time on until another. A point is passed at the time t where its own time is at most t.
-#[derive(Drop)]
+#[derive(Clone, Copy)]
 pub struct Passed {
     pub number: usize,
     pub from: f64,
@@ -25,14 +27,14 @@ pub struct Passed {
 }
 
 // A value that is in force as long as so many points are passed.
-#[derive(Drop)]
+#[derive(Clone, Copy)]
 pub struct Lasting {
     pub value: f64,
     pub passed: Passed,
 }
 
 // The same of a value that is true or false.
-#[derive(Drop)]
+#[derive(Clone, Copy)]
 pub struct LastingFlag {
     pub value: bool,
     pub passed: Passed,

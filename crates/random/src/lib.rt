@@ -1,11 +1,13 @@
 // The generator: Marsaglia's xor128, and what is drawn from it. A step is by value; `next` takes one in a state that is lent, and every draw goes through it.
+#![tactic(auto)]
+
 ghost use Rattle.std.specs.Prelude.{◌≡◌, ◌+◌, ◌-◌, ◌*◌, ◌^◌, ◌≤◌, ◌<◌};
 ghost use Rattle.random.specs.Generator.{seeded, next, low, between, unit};
 ghost use Rattle.random.specs.Play.{on, value, searched};
 ghost use Rattle.random.specs.Answers.{drawn};
 
 // The generator state: four words.
-#[derive(Drop)]
+#[derive(Clone, Copy)]
 pub struct Random {
     pub x: u32,
     pub y: u32,
@@ -14,28 +16,28 @@ pub struct Random {
 }
 
 // How many draws may still be made, and how many the longest search made so far.
-#[derive(Drop)]
+#[derive(Clone, Copy)]
 pub struct Tally {
     pub left: u32,
     pub longest: u32,
 }
 
 // A state, and the tally of the draws from it.
-#[derive(Drop)]
+#[derive(Clone, Copy)]
 pub struct Draws {
     pub random: Random,
     pub tally: Tally,
 }
 
 // What a draw gives: a value below 2^31, and the draws after it.
-#[derive(Drop)]
+#[derive(Clone, Copy)]
 pub enum Drawn {
     Value(u32, Draws),
     Spent,
 }
 
 // A state, and the value of the step that made it.
-#[derive(Drop)]
+#[derive(Clone, Copy)]
 struct Stepped {
     random: Random,
     value: u32,

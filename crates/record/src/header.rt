@@ -11,7 +11,7 @@ use model::{Settings, limits};
 use rules::numbers;
 
 // How many entries each list has.
-#[derive(Drop)]
+#[derive(Clone, Copy)]
 pub struct Counts {
     pub breaks: usize,
     pub timing: usize,
@@ -21,7 +21,7 @@ pub struct Counts {
 }
 
 // Where each list starts, in bits; the breaks start at `layout::BREAKS`.
-#[derive(Drop)]
+#[derive(Clone, Copy)]
 pub struct Places {
     pub timing: usize,
     pub difficulty: usize,

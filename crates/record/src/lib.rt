@@ -1,4 +1,6 @@
 // The job record: its definition, and the checks and values of its header and its lists.
+#![tactic(auto)]
+
 pub mod header;
 pub mod layout;
 pub mod objects;
@@ -10,7 +12,7 @@ use model::Settings;
 
 // What the check of an accepted record finds: key choice, settings, how many entries each list has and where it starts, the first and the last object's
 // start (0 without objects), and how many objects are sliders and spinners.
-#[derive(Drop)]
+#[derive(Clone, Copy)]
 pub struct Summary {
     pub keys: u8,
     pub settings: Settings,
@@ -22,7 +24,7 @@ pub struct Summary {
 }
 
 // The number of a refusal, or what the record is.
-#[derive(Drop)]
+#[derive(Clone, Copy)]
 pub enum Checked {
     Refused(u8),
     Accepted(Summary),

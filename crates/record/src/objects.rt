@@ -2,14 +2,14 @@
 use model::Object;
 
 // An object, and the bit at which the next one starts.
-#[derive(Drop)]
+#[derive(Clone, Copy)]
 pub struct ReadObject {
     pub object: Object,
     pub next: usize,
 }
 
 // What the check of a record's objects finds: the number of a refusal, or the bit at which they end, the last start, and how many are sliders and spinners.
-#[derive(Drop)]
+#[derive(Clone, Copy)]
 pub enum Scan {
     Refused(u8),
     Scanned { end: usize, last: f64, long: usize },

@@ -16,7 +16,7 @@ use rules::numbers;
 // Below every time.
 const BEFORE_ALL: f64 = limits::LEAST_TIME - 1.0;
 
-#[derive(Drop)]
+#[derive(Clone, Copy)]
 pub enum Section {
     Breaks,
     TimingPoints,

@@ -1,4 +1,6 @@
 // Objects: their check, and their values.
+#![tactic(auto)]
+
 ghost use Rattle.std.specs.Prelude.{◌≡◌, ◌≤◌, ◌+◌, ◌*◌};
 ghost use Rattle.model.specs.Limits.{most_entries};
 ghost use Rattle.bits.specs.Field.{bits};

@@ -1,4 +1,6 @@
 // What a song's settings give: the seed, the column count and the conversion difficulty.
+#![tactic(auto)]
+
 ghost use Rattle.std.specs.Prelude.{◌≡◌, nat_lt};
 ghost use Rattle.rules.specs.Rule.{if◌then◌else◌};
 ghost use Rattle.mania.specs.Convert as Convert;

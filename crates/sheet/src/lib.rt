@@ -1,4 +1,6 @@
 // The chart sheet for the engineer's folder: pages of 64 lines, a note to a line, put into a lent buffer.
+#![tactic(auto)]
+
 mod layout;
 
 ghost use Rattle.std.specs.Prelude.{◌≡◌, ◌+◌, ◌*◌, ◌^◌, ◌≤◌, ◌<◌, length};
@@ -19,7 +21,7 @@ use rules::numbers;
 use text::{put_right, put_run, put_word};
 
 // What becomes of a sheet: its length in bytes, or a refusal's number.
-#[derive(Drop)]
+#[derive(Clone, Copy)]
 pub enum Put {
     Length(usize),
     Refused(u8),

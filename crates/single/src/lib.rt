@@ -1,4 +1,6 @@
 // The single-object entry: one object, its facts and previous values, a generator state and an allowance; its notes are written from the buffer's start.
+#![tactic(auto)]
+
 ghost use Rattle.std.specs.Prelude.{◌≡◌, ◌≤◌, length};
 ghost use Rattle.model.specs.Limits.{most_notes};
 ghost use Rattle.mania.specs.Single.{entry_refusal, single_object};
@@ -13,7 +15,7 @@ use random::{Draws, Random, Tally};
 use rules::numbers;
 
 // How the entry ends: the number of notes, the new mask, last column and stair, the state and the draws; or a refusal's number and the state that was lent.
-#[derive(Drop)]
+#[derive(Clone, Copy)]
 pub enum SingleEnd {
     Made(u32, u16, u8, Stair, Random, u32),
     Refused(u8, Random),

@@ -1,4 +1,6 @@
 // The notes of a slider, one word a note in a lent buffer, and the loops that write them. Each loop is a rule of mania/specs/PathObject.antt.
+#![tactic(auto)]
+
 ghost use Rattle.std.specs.Prelude.{◌≡◌, false, ◌&&◌, eqb, ◌+◌, ◌-◌, ◌*◌, ◌^◌, ◌≤◌, ◌<◌, map, length, take};
 ghost use Rattle.rules.specs.Rule.{if◌then◌else◌};
 ghost use Rattle.random.specs.Play.{on};
@@ -15,7 +17,7 @@ use pattern::{Number, Pattern, Placed};
 use random::Draws;
 
 // A pattern with the column of its last note, or the number of a refusal, and the draws after it.
-#[derive(Drop)]
+#[derive(Clone, Copy)]
 pub enum Reached {
     Notes(u8, Pattern, Draws),
     Refused(u8, Draws),

@@ -1,5 +1,7 @@
 // pattern_generator/path_object.rs: each of a slider's patterns. Each function is a rule of mania/specs/PathObject.antt, and writes its notes into the
 // lent buffer.
+#![tactic(auto)]
+
 ghost use Rattle.std.specs.Prelude.{◌≡◌, ◌&&◌, ltb, ◌+◌, ◌-◌, ◌*◌, ◌≤◌, ◌<◌, min, length};
 ghost use Rattle.model.specs.Limits.{most_notes, most_long_spans};
 ghost use Rattle.mania.specs.PatternType.{force_not_stack, contains};

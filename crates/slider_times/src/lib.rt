@@ -1,4 +1,6 @@
 // What a slider's pattern is made from: its times, and the chances of its notes. Each function is a definition of mania/specs/PathObject.antt.
+#![tactic(auto)]
+
 ghost use Rattle.std.specs.Prelude.{◌≡◌, ◌+◌, ◌-◌, ◌/◌, ◌<◌, ◌≤◌};
 ghost use Rattle.std.proofs.Math.Bool as Bool;
 ghost use Rattle.rules.specs.Rule.{if◌then◌else◌};
@@ -11,7 +13,7 @@ use mania::{Facts, PathObjectPatternGenerator, PrevValues};
 use model::{Distance, NodeSound, Object, sound};
 
 // The chances of two, three and four notes.
-#[derive(Drop)]
+#[derive(Clone, Copy)]
 pub struct Chance {
     pub p2: f64,
     pub p3: f64,

@@ -1,5 +1,7 @@
 // What a host in C links. A slice is two arguments there, a pointer and a length, and a number behind a `&mut` is a pointer. Assumes nothing.
 // include/sumopine.h declares these functions.
+#![tactic(auto)]
+
 pub mod hit_objects;
 pub mod lookups;
 pub mod one_object;

@@ -1,4 +1,6 @@
 // Text in ASCII codes, stored in a lent buffer: digits, decimal and hexadecimal numbers, and words.
+#![tactic(auto)]
+
 ghost use Rattle.std.specs.Prelude.{◌≡◌, ◌+◌, ◌≤◌, ◌<◌, length, replicate};
 ghost use Rattle.chart.specs.Bytes.{splice};
 ghost use Rattle.text.specs.Text.{digit, digits, decimal, hex, right, named, with_hex};

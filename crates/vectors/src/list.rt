@@ -8,7 +8,7 @@ use crate::numbers::word;
 
 // An entry as it stands in a list: where its parts begin and end, the next entry behind the last; the buffer's length and the answer's
 // number. A list that is cut has no entry there: next is 0.
-#[derive(Drop)]
+#[derive(Clone, Copy)]
 pub struct Entry {
     pub input: usize,
     pub input_end: usize,

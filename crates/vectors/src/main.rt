@@ -1,5 +1,7 @@
 // Replays the jobs of data/jobs.bin and the single objects of data/objects.bin, which have the Rust's answers beside them
 // (oracle/compare/src/bin), and prints how many differ, and how often each answer was due.
+#![tactic(auto)]
+
 mod files;
 mod jobs;
 mod lent;
@@ -13,14 +15,14 @@ ghost use Rattle.vectors.specs.Whole.{Whole};
 use files::load;
 use list::{Entry, entry_at};
 
-#[derive(Drop)]
+#[derive(Clone, Copy)]
 enum Kind {
     Jobs,
     Objects,
 }
 
 // What was counted: entries, those that differ, and the answers that were due, by number. Numbers are below 32.
-#[derive(Drop)]
+#[derive(Clone, Copy)]
 struct Counts {
     entries: u32,
     differ: u32,

@@ -1,4 +1,6 @@
 // The walk: what each object finds and leaves, and the objects one after another.
+#![tactic(auto)]
+
 ghost use Rattle.std.specs.Prelude.{◌≡◌, ℕ, ◌+◌, ◌^◌, ◌≤◌, ◌<◌, List, length};
 ghost use Rattle.chart.specs.Layout.{indices, most_in_chart};
 ghost use Rattle.model.specs.Limits.{most_entries, most_notes};
@@ -26,7 +28,7 @@ use record_object::read_object;
 use rules::numbers;
 
 // What the walk keeps between objects; `notes` counts the notes so far.
-#[derive(Drop)]
+#[derive(Clone, Copy)]
 pub struct Walk {
     pub prev: PrevValues,
     pub density: Density,
@@ -165,7 +167,7 @@ fn after_object(
 // ---- an object of the walk
 
 // How many points each list has. The lists follow one another, from the first bit of the part that the walk receives for them.
-#[derive(Drop)]
+#[derive(Clone, Copy)]
 pub struct PointCounts {
     pub timing: usize,
     pub difficulty: usize,
@@ -173,7 +175,7 @@ pub struct PointCounts {
 }
 
 // The numbers that the walk takes of a song. Nothing is asked of the difficulty: it may be any that the single-object entry allows.
-#[derive(Drop)]
+#[derive(Clone, Copy)]
 pub struct Song {
     pub columns: u8,
     pub difficulty: f64,
@@ -182,7 +184,7 @@ pub struct Song {
 }
 
 // The values of the points in force.
-#[derive(Drop)]
+#[derive(Clone, Copy)]
 pub struct InForce {
     pub beat: Lasting,
     pub velocity: Lasting,
@@ -231,7 +233,7 @@ fn in_force_at(points: &[u8], g: Song, c: InForce, t: f64) -> InForce
 }
 
 // What an object meets.
-#[derive(Drop)]
+#[derive(Clone, Copy)]
 pub struct Met {
     pub density: Density,
     pub facts: Facts,
@@ -255,7 +257,7 @@ fn meet(g: Song, c: InForce, before: Density, o: Object) -> Met
 }
 
 // Whether a chart of so many notes fits, and what the walk then keeps. (No enum: what the walk keeps has an array.)
-#[derive(Drop)]
+#[derive(Clone, Copy)]
 pub struct Kept {
     pub fits: bool,
     pub walk: Walk,
@@ -298,7 +300,7 @@ fn keep(
 }
 
 // One object more: what the walk keeps after it, and the draws; or a refusal's number, and the draws.
-#[derive(Drop)]
+#[derive(Clone, Copy)]
 pub struct Step {
     pub refused: bool,
     pub number: u8,
@@ -365,7 +367,7 @@ fn convert_object(
 }
 
 // How the walk ends: with so many notes, in walk order from byte 8 of the chart on, or with a refusal's number and the object's index; and the draws.
-#[derive(Drop)]
+#[derive(Clone, Copy)]
 pub enum WalkEnd {
     Made(u32, Draws),
     Refused(u8, u32, Draws),

@@ -1,1 +1,2 @@
 // Worked songs, computed on the definition, in proofs/. No code.
+#![tactic(auto)]

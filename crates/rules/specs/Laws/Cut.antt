@@ -128,6 +128,7 @@ module _ {P R A : Type 0} where
   unfolding taken
   cut_own (ended a n) d = rw (le-leb n n (le_refl n))
   cut_own (refused r n) d = rw (le-leb n n (le_refl n))
+  cut_own (spent _ _) d = elim d [ ]
 
   cut_less : (k : ℕ) (o : Outcome P R A) → k < taken o → cut k (plain o) ≡ runs_out k
   unfolding taken
@@ -143,6 +144,7 @@ module _ {P R A : Type 0} where
   done_stops : (o : Outcome P R A) → Done o → Stops (plain o)
   done_stops (ended a n) d = tt
   done_stops (refused r n) d = tt
+  done_stops (spent _ _) d = elim d [ ]
 
   uncut : (k : ℕ) (x y : Plain P R A) → Stops y → cut k x ≡ y → x ≡ y
   uncut k (stops o n) y s e = pick (leb n k) e
@@ -155,14 +157,17 @@ module _ {P R A : Type 0} where
   unplain : (o q : Outcome P R A) → Done q → plain o ≡ plain q → o ≡ q
   unplain (ended a n) (ended b m) d e = cc
   unplain (ended a n) (refused b m) d e = cc
+  unplain (ended a n) (spent _ _) d e = elim d [ ]
   unplain (refused a n) (ended b m) d e = cc
   unplain (refused a n) (refused b m) d e = cc
+  unplain (refused a n) (spent _ _) d e = elim d [ ]
   unplain (spent a n) q d e = absurd (subst Stops (sym e) (done_stops q d))
 
   done_taken : (o : Outcome P R A) (l : ℕ) → Within o l → Done o → taken o ≤ l
   unfolding taken
   done_taken (ended a n) l h d = h
   done_taken (refused r n) l h d = h
+  done_taken (spent _ _) l h d = elim d [ ]
 
   pub done_within : (m : Rule P R A) (vs : List ℕ) → Done (run m vs) → taken (run m vs) ≤ length vs
   done_within m vs d = done_taken (run m vs) (length vs) (run_within m vs) d
