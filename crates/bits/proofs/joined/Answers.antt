@@ -1,0 +1,29 @@
+-- `bits::joined` meets its contract: v is below 2 ^ (64 - k), so with k bits more it is below 2 ^ 64.
+-- Assumes nothing.
+use mathlib.Core.Path.{◌≡◌, subst}
+use Prim.Native.Nat.{ℕ, ◌+◌, ◌-◌, ◌*◌, ◌^◌, ◌≤◌, ◌<◌}
+use native.Mathlib.Nat.{mod-lt}
+use native.Mathlib.Omega.{arith}
+use lib.Pow.{pow_pos, pow-add}
+use lib.Arith.{digits_lt}
+use Rattle.bits.proofs.joined.Goals as goal
+
+-- v with k bits more, r, fits
+fits : (v r k : ℕ) → k ≤ 64 → v < 2 ^ (64 - k) → r < 2 ^ k → v * 2 ^ k + r < 2 ^ 64
+fits v r k h a b =
+    let e : 64 - k + k ≡ 64 = omega arith in
+    let q : 2 ^ (64 - k) * 2 ^ k ≡ 2 ^ 64 = rw (← pow-add, e) in
+    subst (λ (n : ℕ). v * 2 ^ k + r < n) q (digits_lt a b)
+
+pub overflow_mul-result : goal.overflow_mul-result
+overflow_mul-result c =
+    let a = c in
+    rw c.power-p.ensures (omega (arith, fits a.args.v 0 a.args.k (omega arith) a.requires.2 (pow_pos a.args.k)))
+
+pub overflow_add-result : goal.overflow_add-result
+overflow_add-result c =
+    let a = c in
+    rw c.power-p.ensures (record { fits = fits a.args.v _ a.args.k (omega arith) a.requires.2 (mod-lt _ (pow_pos a.args.k)) })
+
+pub returns : goal.returns
+returns c = rw (c.power-p.ensures, c.power.ensures)
