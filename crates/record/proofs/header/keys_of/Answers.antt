@@ -1,0 +1,12 @@
+-- `record::header::keys_of` meets its contract: a field of 4 bits fits. Assumes nothing.
+use lib.Dec.{lit≤}
+use Rattle.record.specs.Header.{keys_of}
+use Rattle.record.specs.Laws.Widths.{bits_fit}
+use Rattle.record.proofs.header.keys_of.Goals as goal
+
+pub overflow_cast-result : goal.overflow_cast-result
+overflow_cast-result c = rw c.read_bits.ensures (record { fits = bits_fit _ _ 4 8 (lit≤ tt) })
+
+pub returns : goal.returns
+unfolding keys_of
+returns c = c.read_bits.ensures

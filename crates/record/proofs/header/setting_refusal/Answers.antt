@@ -1,0 +1,8 @@
+-- `record::header::setting_refusal` meets its contract: the bounds, as the code and as the definition write them, are the same floats.
+-- Assumes nothing.
+use lib.Ieee.{round, size, span, climb, units, odd, of_bits, of_fields}
+use Rattle.record.proofs.header.setting_refusal.Goals as goal
+
+pub returns : goal.returns
+unfolding round size span climb units odd of_bits of_fields
+returns c = c.f32_refusal.ensures
