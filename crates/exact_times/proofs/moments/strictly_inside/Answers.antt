@@ -6,18 +6,18 @@ use Rattle.exact_times.specs.declared.moments.Moment.TheVariants.{At}
 use Rattle.exact_times.specs.Instants.{Tells}
 use Rattle.exact_times.specs.Laws.Instants.{before_inside}
 use Rattle.exact_times.proofs.moments.strictly_inside.Goals as goal
-use Rattle.exact_times.proofs.moments.strictly_inside.Goals.{In-At-2}
+use Rattle.exact_times.proofs.moments.strictly_inside.Goals.{In-At}
 
-told : (c : In-At-2) → Tells c.args.t (At c.b-1.given.0.0)
-told c = rw c.b-1.given.1 at c.moment_of.ensures
+told : (c : In-At) → Tells c.args.t (At c.in-At.b)
+told c = rw c.in-At.is at c.moment_of.ensures
 
 pub inside_at-requires : goal.inside_at-requires
 unfolding Tells
-inside_at-requires c = (search rules, search rules, (told (goal.at.inside_at-requires c).In-At-2).0)
+inside_at-requires c = (search rules, search rules, (told (goal.at.inside_at-requires c).In-At).0)
 
 pub returns-in-At : goal.returns-in-At
 unfolding Tells
-returns-in-At c = c.inside_at.ensures ∙ rw (told (goal.at.returns-in-At c).In-At-2).1
+returns-in-At c = c.inside_at.ensures ∙ rw (told (goal.at.returns-in-At c).In-At).1
 
 pub returns-in-Before : goal.returns-in-Before
 unfolding Tells
