@@ -4,7 +4,7 @@ use borrow.Author.Rules.{rules}
 use mathlib.Core.Path.{◌≡◌, sym, ◌∙◌}
 use mathlib.Core.Bool.{true}
 use lib.Dec.{leb}
-use borrow.Author.Tests.{le-ltb, lt-leb, lt-ltb, le-leb, ltb-true, ltb-false, not-true, not-false}
+use borrow.Author.Tests.{le-ltb, lt-leb, lt-ltb, le-leb, ltb-true, ltb-false}
 use Rattle.chart.specs.Order.{rank}
 use Rattle.chart.specs.Laws.Times.{time_above, time_below}
 use Rattle.chart.specs.Chart.{note_tests}
@@ -31,7 +31,7 @@ returns-then-precedes c =
 
 pub returns-then-not-lasting : goal.returns-then-not-lasting
 unfolding note_tests
-returns-then-not-lasting c = note_refused _ _ _ 4 (sym c.lasting.ensures ∙ not-true _ c.if-not-lasting.true)
+returns-then-not-lasting c = note_refused _ _ _ 4 (sym c.lasting.ensures ∙ c.if-not-lasting.true)
 
 pub returns : goal.returns
 returns c =
@@ -41,4 +41,4 @@ returns c =
     le-leb (rank a.last) (rank a.n) (ltb-false (rank a.n) (rank a.last) (sym p.precedes.ensures ∙ c.if-precedes.false)) in
     c.within.ensures
     ∙ note_decided a.columns (rank a.last) a.n (lt-ltb a.n.column a.columns (search rules)) (time_below a.n.start (search rules)) (time_below a.n.duration (search rules)) ordered
-    (sym c.lasting.ensures ∙ not-false _ c.if-not-lasting.false)
+    (sym c.lasting.ensures ∙ c.if-not-lasting.false)

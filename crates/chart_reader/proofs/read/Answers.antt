@@ -5,7 +5,7 @@ use mathlib.Core.Bool.{true}
 use mathlib.Core.List.{List}
 use Prim.Native.Nat.{ℕ, ◌≤◌}
 use native.Mathlib.Nat.{le_of_eq}
-use borrow.Author.Tests.{leb-true, not-true, not-false}
+use borrow.Author.Tests.{leb-true}
 use lib.ListN.{length}
 use Rattle.chart.specs.Tests.{passes}
 use Rattle.chart.specs.Chart.{ok_head, head_tests, columns_of, count_of}
@@ -16,7 +16,7 @@ use Rattle.chart_reader.proofs.read.Goals.{Else-not-header_ok}
 
 -- the header passes
 okay : (c : Else-not-header_ok) → ok_head c.args.chart.now ≡ true
-okay c = sym c.header_ok.ensures ∙ not-false _ c.if-not-header_ok.false
+okay c = sym c.header_ok.ensures ∙ c.if-not-header_ok.false
 
 -- so there are its eight bytes
 long : (s : List ℕ) → ok_head s ≡ true → 8 ≤ length s
@@ -24,7 +24,7 @@ unfolding ok_head head_tests
 long s h = leb-true 8 (length s) (passes (head_tests s) h 0)
 
 pub returns-then-not-header_ok : goal.returns-then-not-header_ok
-returns-then-not-header_ok c = refused_head _ (sym c.header_ok.ensures ∙ not-true _ c.if-not-header_ok.true)
+returns-then-not-header_ok c = refused_head _ (sym c.header_ok.ensures ∙ c.if-not-header_ok.true)
 
 pub version_of-version-requires : goal.version_of-version-requires
 version_of-version-requires c = let l = long _ (okay (goal.at.version_of-version-requires c).Else-not-header_ok) in search rules
@@ -45,7 +45,7 @@ pub returns-then-not-rows_ok : goal.returns-then-not-rows_ok
 unfolding columns_of count_of
 returns-then-not-rows_ok c =
     let g = c in
-    refused_rows _ (rw (g.version_of-version.ensures, g.get-notes.ensures.0) at (sym c.rows_ok.ensures ∙ not-true _ c.if-not-rows_ok.true))
+    refused_rows _ (rw (g.version_of-version.ensures, g.get-notes.ensures.0) at (sym c.rows_ok.ensures ∙ c.if-not-rows_ok.true))
 
 pub draws_in-requires : goal.draws_in-requires
 draws_in-requires c = long _ (okay (goal.at.draws_in-requires c).Else-not-header_ok)
@@ -55,5 +55,5 @@ unfolding columns_of count_of
 returns c =
     let g = c in
     let v = g.version_of-version.ensures in
-    let rows = rw (v, g.get-notes.ensures.0) at (sym c.rows_ok.ensures ∙ not-false _ c.if-not-rows_ok.false) in
+    let rows = rw (v, g.get-notes.ensures.0) at (sym c.rows_ok.ensures ∙ c.if-not-rows_ok.false) in
     rw (v, g.get-notes.ensures.0, c.draws_in.ensures) (all_pass _ (okay (goal.at.returns c).Else-not-header_ok) rows)

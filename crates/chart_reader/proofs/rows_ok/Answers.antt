@@ -4,7 +4,7 @@ use mathlib.Core.Path.{sym, ◌∙◌}
 use Prim.Native.Nat.{◌-◌}
 use native.Mathlib.Nat.{sub-zero, le_trans, lt_trans}
 use borrow.Author.Rules.{rules}
-use borrow.Author.Tests.{not-true, not-false, ltb-true, eqb-true, eqb-false}
+use borrow.Author.Tests.{ltb-true, eqb-true, eqb-false}
 use Rattle.chart.specs.Tests.{passes}
 use Rattle.chart.specs.Chart.{note_tests, ok_note}
 use Rattle.chart.specs.Order.{rank}
@@ -25,7 +25,7 @@ returns-then-not-zeros_ok c =
     let l = c in
     let start = l in
     let more = c.loop-i-test.true in
-    let bad = rw c.place-at.ensures.0 at (sym c.zeros_ok.ensures ∙ not-true _ c.if-not-zeros_ok.true) in
+    let bad = rw c.place-at.ensures.0 at (sym c.zeros_ok.ensures ∙ c.if-not-zeros_ok.true) in
     sym (sym l.loop-i.invariant.2 ∙ row_zeros _ _ _ _ _ start.args.chart.now more (eqb-false _ 0 bad))
 
 pub note_in-n-requires : goal.note_in-n-requires
@@ -40,7 +40,7 @@ returns-then-not-may_stand c =
     let l = c in
     let start = l in
     let more = c.loop-i-test.true in
-    let bad = rw (c.note_in-n.ensures, place) at (sym c.may_stand.ensures ∙ not-true _ c.if-not-may_stand.true) in
+    let bad = rw (c.note_in-n.ensures, place) at (sym c.may_stand.ensures ∙ c.if-not-may_stand.true) in
     sym (sym l.loop-i.invariant.2 ∙ row_note _ _ _ _ _ start.args.chart.now more bad)
 
 pub loop-i-preserved : goal.loop-i-preserved
@@ -50,10 +50,10 @@ loop-i-preserved c =
     let l = c in
     let start = l in
     let more = c.loop-i-test.true in
-    let good = sym c.may_stand.ensures ∙ not-false _ c.if-not-may_stand.false in
+    let good = sym c.may_stand.ensures ∙ c.if-not-may_stand.false in
     let note = c.note_in-n.ensures in
     let here = rw (note, place) at good in
-    let zeros = rw place at (sym c.zeros_ok.ensures ∙ not-false _ c.if-not-zeros_ok.false) in
+    let zeros = rw place at (sym c.zeros_ok.ensures ∙ c.if-not-zeros_ok.false) in
     let on = ltb-true c.note_in-n.result.column start.args.columns (passes (note_tests _ _ c.note_in-n.result) good 0) in
     (search rules, lt_trans on start.requires.0, rw (note, place) (sym (row_next _ _ _ _ _ start.args.chart.now more (eqb-true _ 0 zeros) here) ∙ l.loop-i.invariant.2))
 

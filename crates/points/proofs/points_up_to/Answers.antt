@@ -1,13 +1,11 @@
 -- `points::points_up_to` meets its contract. The loop's invariant: as many points are passed at t, and at any time at which `from` is. Assumes nothing.
 use Prim.Native.Nat.{◌-◌, ◌*◌, ◌≤◌}
-use mathlib.Core.Logic.{⊎_elim}
 use native.Mathlib.Omega.{arith}
-use borrow.Author.Tests.{not-true, not-false}
 use Rattle.record.specs.Layout as At
 use Rattle.record.specs.Laws.Widths.{width_le}
 use Rattle.points.proofs.Lookups.{near, reached_at, reached_up, found_before, found_after}
 use Rattle.points.proofs.points_up_to.Goals as goal
-use Rattle.points.proofs.points_up_to.Goals.{In-loop-number}
+use Rattle.points.proofs.points_up_to.Goals.{In-loop-number, then-from-t, else-from-t}
 
 pub loop-number-init : goal.loop-number-init
 loop-number-init c =
@@ -15,10 +13,10 @@ loop-number-init c =
     let a = s.args in
     let w = c.width_of-width.ensures in
     let at = reached_at a.section a.s.now a.at a.count _ w a.p.number in (
-      ⊎_elim (λ b. omega arith) (λ b. omega arith) c.if-from-t.branch,
+      elim c.if-from-t.branch [ then-from-t b ↦ omega arith | else-from-t b ↦ omega arith ],
       rw w (width_le a.section),
-      ⊎_elim (λ b. omega (arith, b.1, at a.t (s.requires.3.1 a.t b.0.taken))) (λ b. omega arith) c.if-from-t.branch,
-      (λ u h. ⊎_elim (λ b. omega (arith, b.1, at u (s.requires.3.1 u h))) (λ b. omega arith) c.if-from-t.branch),
+      elim c.if-from-t.branch [ then-from-t b ↦ omega (arith, at a.t (s.requires.3.1 a.t b.if-from-t.true)) | else-from-t b ↦ omega arith ],
+      (λ u h. elim c.if-from-t.branch [ then-from-t b ↦ omega (arith, at u (s.requires.3.1 u h)) | else-from-t b ↦ omega arith ]),
     )
 
 small : (c : In-loop-number) → c.width_of-width.result * c.loop-number.number ≤ 524160
@@ -38,7 +36,7 @@ returns-then-not-time-t c =
     let l = c.loop-number in
     let a = c.args in
     found_before a.section a.s.now a.at a.count _ c.width_of-width.ensures l.number _ _ l.invariant.3 (omega arith) c.f64_at-time.ensures a.t l.invariant.2
-    (not-true _ c.if-not-time-t.true)
+    c.if-not-time-t.true
 
 pub loop-number-preserved : goal.loop-number-preserved
 loop-number-preserved c =
@@ -46,7 +44,7 @@ loop-number-preserved c =
     let s = c in
     let a = s.args in
     let more = reached_up a.section a.s.now a.at a.count _ c.width_of-width.ensures l.number s.requires.2 (omega arith) _ c.f64_at-time.ensures in
-    (omega arith, l.invariant.1, more a.t (not-false _ c.if-not-time-t.false), more)
+    (omega arith, l.invariant.1, more a.t c.if-not-time-t.false, more)
 
 pub returns : goal.returns
 returns c =
