@@ -90,6 +90,7 @@ digits_next s₀ s at base k n (suc j) rest g p l h e is first =
     let first₁ : digits base (j + 1) rest ≡ take (j + 1) d = rw (add-one j) first in
     let is₁ : s ≡ splice s₀ (at + (j + 1)) (drop (j + 1) d) = rw (add-one j) is in
     rw (same, is₁, e) (digits_store d base j rest below first₁ s₀ at (omega (arith, length_digits base k n)), digits_first d base j rest below first₁)
+digits_next s₀ s at base k n zero rest g p l h e is first = elim p [ ]
 
 -- ---- decimal numbers
 
@@ -101,6 +102,7 @@ places_one (suc k) n h = rw (lt-ltb n 10 h)
 pub places_more : (k n : ℕ) → 10 ≤ n → 0 < k → places k (ltb n 10) n ≡ places (k - 1) (ltb (n / 10) 10) (n / 10) + 1
 unfolding places
 places_more (suc k) n h p = let same : k ≡ suc k - 1 = omega arith in rw (le-ltb n 10 h) (ap (λ (j : ℕ). places j (ltb (n / 10) 10) (n / 10) + 1) same)
+places_more zero n h p = elim p [ ]
 
 -- a number below 10^(j + 1) has j + 1 digits at most
 places_most : (k : ℕ) (t : Bool) (n j : ℕ) → ltb n 10 ≡ t → n < 10 ^ suc j → places k t n ≤ suc j

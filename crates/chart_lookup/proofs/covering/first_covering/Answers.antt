@@ -1,0 +1,31 @@
+-- `chart_lookup::covering::first_covering` meets its contract. The invariant: the holds from the i-th note on are all. The measure is the number of notes left.
+-- Assumes nothing.
+use mathlib.Core.Path.{refl, sym, ◌∙◌}
+use Prim.Native.Nat.{◌-◌, ◌<◌}
+use native.Mathlib.Omega.{arith}
+use borrow.Author.Rules.{rules}
+use lib.ListN.{length}
+use Rattle.chart_lookup.specs.declared.Wanted.TheVariants.{Covering}
+use Rattle.chart.specs.Chart.{notes_in}
+use Rattle.chart_lookup.specs.Lookup.{wanted}
+use Rattle.chart_lookup.specs.Laws.Places.{places_no}
+use Rattle.chart_lookup.proofs.covering.first_covering.Goals as goal
+
+pub loop-i-init : goal.loop-i-init
+loop-i-init c = (search rules, refl)
+
+pub is_covering-requires : goal.is_covering-requires
+is_covering-requires c = let s = c in (omega (arith, s.requires.0, c.loop-i-test.true), s.requires.1)
+
+pub returns-then-is_covering : goal.returns-then-is_covering
+returns-then-is_covering c = c.loop-i.invariant
+
+pub loop-i-preserved : goal.loop-i-preserved
+loop-i-preserved c = let l = c in
+    let s = l in
+    let ns = notes_in s.args.chart.now in
+    let more : l.loop-i.i < length ns = omega (arith, s.requires.0, c.loop-i-test.true) in
+    (search rules, sym (places_no (wanted (Covering s.args.at)) ns l.loop-i.i more (sym c.is_covering.ensures ∙ c.if-is_covering.false)) ∙ l.loop-i.invariant.1)
+
+pub returns : goal.returns
+returns c = c.loop-i.invariant

@@ -1,0 +1,48 @@
+-- `chart_lookup::covering::list_covering` meets its contract: from `end` on no note covers the instant; then a law for each answer.
+-- Assumes nothing.
+use mathlib.Core.Path.{◌≡◌, sym, ap, ◌∙◌}
+use mathlib.Core.List.{List}
+use Prim.Native.Nat.{ℕ}
+use lib.ListN.{length}
+use Rattle.chart_lookup.specs.declared.Wanted.TheVariants.{Covering}
+use Rattle.chart.specs.Chart.{notes_in}
+use Rattle.chart_lookup.specs.Lookup.{wanted}
+use Rattle.chart_lookup.specs.Search.{Stretch, held_from}
+use Rattle.chart_lookup.specs.Laws.Places.{none_found, too_many, some_found}
+use Rattle.chart_lookup.specs.Laws.Wanted.{none_covers}
+use Rattle.chart_lookup.proofs.covering.list_covering.Goals as goal
+use Rattle.chart_lookup.proofs.covering.list_covering.Goals.{After-count_covering-found, After-first_covering-first}
+
+pub first_covering-first-requires : goal.first_covering-first-requires
+first_covering-first-requires c = let s = c in (c.starting_before-end.ensures.within, s.requires.1)
+
+-- from the first one to where starts are past the instant
+stretch : (c : After-first_covering-first)
+    → Stretch (wanted (Covering c.args.at)) (notes_in c.args.chart.now) c.first_covering-first.result c.starting_before-end.result
+stretch c = let b = c in
+    record { order = c.first_covering-first.ensures.0; within = b.starting_before-end.ensures.within; none_after = none_covers _ _ _ _ b.first_after.ensures b.starting_before-end.ensures }
+
+pub count_covering-found-requires : goal.count_covering-found-requires
+count_covering-found-requires c = (stretch (goal.at.count_covering-found-requires c).After-first_covering-first, c.requires.1)
+
+-- the number found is that of all
+counts : (c : After-count_covering-found)
+    → c.count_covering-found.result ≡ length (held_from c.args.at 0 c.args.chart.now)
+counts c = c.count_covering-found.ensures ∙ ap (λ (ps : List ℕ). length ps) c.first_covering-first.ensures.1
+
+pub returns-then-found-eq0 : goal.returns-then-found-eq0
+returns-then-found-eq0 c = none_found _ _ (sym (counts (goal.at.returns-then-found-eq0 c).After-count_covering-found) ∙ c.if-found-eq0.true)
+
+pub returns-then-found-list : goal.returns-then-found-list
+returns-then-found-list c = too_many _ _ (rw (counts (goal.at.returns-then-found-list c).After-count_covering-found) at c.if-found-list.true)
+
+pub write_covering-requires : goal.write_covering-requires
+write_covering-requires c = let n = c in
+    let f = n in
+    (stretch (goal.at.write_covering-requires c).After-first_covering-first, f.requires.1, n.count_covering-found.ensures, c.if-found-list.false)
+
+pub returns : goal.returns
+returns c = let n = c in
+    let fits = rw (counts (goal.at.returns c).After-count_covering-found) at c.if-found-list.false in
+    rw (c.write_covering.ensures, n.first_covering-first.ensures.1, counts (goal.at.returns c).After-count_covering-found)
+    (some_found _ _ fits (λ e. c.if-found-eq0.false (counts (goal.at.returns c).After-count_covering-found ∙ e)))

@@ -1,0 +1,10 @@
+use Prim.Native.Nat.{◌-◌, ◌≤◌}
+use Rattle.chart_lookup.specs.Search.{held_from}
+use Rattle.chart_lookup.specs.Laws.Places.{Wrote}
+use Rattle.chart_lookup.proofs.covering.write_covering.Given as goal
+
+abbrev pub invariant-loop-k : goal.invariant-loop-k
+invariant-loop-k l = (l.i ≤ l.end) × Wrote (held_from l.at l.first l.chart) l.list l.initial.list l.k (held_from l.at l.i l.chart)
+
+abbrev pub decreases-loop-k : goal.decreases-loop-k
+decreases-loop-k l = l.end - l.i

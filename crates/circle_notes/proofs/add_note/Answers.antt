@@ -1,0 +1,13 @@
+-- `circle_notes::add_note` meets its contract. Assumes nothing.
+use mathlib.Core.Path.{sym}
+use native.Mathlib.Omega.{arith}
+use Rattle.circle_notes.proofs.Words.{note_off, note_on_law}
+use Rattle.circle_notes.proofs.add_note.Goals as goal
+
+pub returns-then-columns-c : goal.returns-then-columns-c
+returns-then-columns-c c = (sym (note_off _ _ _ _ c.if-columns-c.true), tt)
+
+pub returns : goal.returns
+returns c =
+    let a = c in
+    (sym (note_on_law a.args.g _ _ a.args.words.now a.args.p _ (omega arith) (omega arith) (omega arith) c.with_column-with.ensures), omega arith)

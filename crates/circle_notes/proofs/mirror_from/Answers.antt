@@ -1,0 +1,94 @@
+-- `circle_notes::mirror_from` meets its contract: a column, the pairs, the centre and the special column, one after the other. Assumes nothing.
+use mathlib.Core.Path.{◌≡◌, sym, ap, subst, ◌∙◌}
+use Prim.Native.Nat.{◌/◌, ◌<◌}
+use native.Mathlib.Omega.{arith}
+use Rattle.random.specs.Play.{found, on}
+use Rattle.random.specs.Laws.On.{found_bind, refused_bind}
+use Rattle.mania.specs.PatternGenerator.{get_random_column}
+use Rattle.mania.specs.HitObject.{mirror_from}
+use Rattle.mania.proofs.Columns.{start_small}
+use Rattle.pattern.specs.Answers.{number}
+use Rattle.pattern.specs.Laws.Bounds.{drawn_lt}
+use Rattle.pattern.specs.Answers.{placed, AtMost}
+use Rattle.circle_notes.proofs.mirror_from.Goals as goal
+use Rattle.circle_notes.proofs.mirror_from.Goals.{After-random_start-low, In-Given}
+
+-- the first column of the search is in the left half
+low : (c : After-random_start-low) → c.random_start-low.result < c.args.g.columns / 2
+low c = rw c.random_start-low.ensures (start_small _ (omega arith))
+
+pub get_random_column-requires : goal.get_random_column-requires
+get_random_column-requires c = (low (goal.at.get_random_column-requires c).After-random_start-low, omega arith)
+
+-- what the draw gave, in the rule's words
+got : (c : In-Given)
+    → let r = c in let a = r.args in
+    on (get_random_column r.random_start-low.result (a.g.columns / 2)) a.d ≡ found c.in-Given.c c.in-Given.next
+got c = sym c.get_random_column.ensures ∙ ap number c.in-Given.is
+
+small : (c : In-Given) → c.in-Given.c < c.args.g.columns / 2
+small c = drawn_lt _ _ (rw c.random_start-low.ensures (start_small _ (omega arith))) _ _ _ (got c)
+
+pub add_mirrored-requires : goal.add_mirrored-requires
+add_mirrored-requires c = omega (arith, small (goal.at.add_mirrored-requires c).In-Given)
+
+pub add_centre-requires : goal.add_centre-requires
+add_centre-requires c = omega (arith, subst (AtMost _) c.in-Notes.is c.add_mirrored.ensures.1)
+
+pub add_special-requires : goal.add_special-requires
+add_special-requires c =
+    let m = c in
+    let f = m in
+    let r = f.requires in
+    omega (arith, subst (AtMost _) c.in-Notes-add_centre.is m.add_centre.ensures.1, r.1, r.3, f.add_mirrored.auto.words, m.add_centre.auto.words)
+
+pub returns-in-Notes-add_centre : goal.returns-in-Notes-add_centre
+unfolding mirror_from
+returns-in-Notes-add_centre c =
+    let q = c in
+    let m = q in
+    let p = m in
+    let f = p in
+    let g = f in
+    let k = c.add_special.ensures in (
+      k.0
+          ∙ sym
+          (rw (← g.random_start-low.ensures)
+          (found_bind _ _ _ _ _ (got (goal.at.returns-in-Notes-add_centre c).In-Given) ∙ found_bind _ _ _ _ _ (sym f.add_mirrored.ensures.0 ∙ ap (placed _ _) p.in-Notes.is)
+          ∙ found_bind _ _ _ _ _ (sym m.add_centre.ensures.0 ∙ ap (placed _ _) q.in-Notes-add_centre.is))),
+      k.1,
+    )
+
+pub returns-in-Refused-add_centre : goal.returns-in-Refused-add_centre
+unfolding mirror_from
+returns-in-Refused-add_centre c =
+    let m = c in
+    let p = m in
+    let f = p in
+    let g = f in (
+      sym
+          (rw (← g.random_start-low.ensures)
+          (found_bind _ _ _ _ _ (got (goal.at.returns-in-Refused-add_centre c).In-Given) ∙ found_bind _ _ _ _ _ (sym f.add_mirrored.ensures.0 ∙ ap (placed _ _) p.in-Notes.is)
+          ∙ refused_bind _ _ _ _ _ (sym m.add_centre.ensures.0 ∙ ap (placed _ _) c.in-Refused-add_centre.is))),
+      tt,
+    )
+
+pub returns-in-Refused-add_mirrored : goal.returns-in-Refused-add_mirrored
+unfolding mirror_from
+returns-in-Refused-add_mirrored c =
+    let f = c in
+    let g = f in (
+      sym
+          (rw (← g.random_start-low.ensures)
+          (found_bind _ _ _ _ _ (got (goal.at.returns-in-Refused-add_mirrored c).In-Given) ∙ refused_bind _ _ _ _ _ (sym f.add_mirrored.ensures.0 ∙ ap (placed _ _) c.in-Refused-add_mirrored.is))),
+      tt,
+    )
+
+pub returns-in-Refused : goal.returns-in-Refused
+unfolding mirror_from
+returns-in-Refused c = (
+  sym
+      (rw (← c.random_start-low.ensures)
+      (refused_bind _ _ _ _ _ (sym c.get_random_column.ensures ∙ ap number c.in-Refused.is))),
+  tt,
+)
