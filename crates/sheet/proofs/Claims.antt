@@ -29,7 +29,7 @@ use Rattle.sheet.specs.Claims.{Shown, shown, number, marks, read_line, line_in, 
 number_append : (x : ℕ) (a b : List ℕ) → number x (a ++ b) ≡ number (number x a) b
 unfolding number
 number_append x [] b = refl
-number_append x (c ∷ cs) b = number_append _ cs b
+number_append x (c ∷ cs) b = number_append (if eqb c space then x else x * 10 + (c - 48)) cs b
 
 number_spaces : (x k : ℕ) → number x (replicate k space) ≡ x
 unfolding number

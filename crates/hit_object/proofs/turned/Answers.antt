@@ -1,0 +1,21 @@
+-- `hit_object::turned` meets its contract. Assumes nothing.
+use Rattle.mania.specs.HitObject.{turned}
+use Rattle.hit_object.proofs.turned.Goals as goal
+
+pub returns-then-at_start : goal.returns-then-at_start
+unfolding turned
+returns-then-at_start c =
+    let k = c in
+    rw (← k.random_start-low.ensures, ← k.has_type-down.ensures, c.if-at_start.true)
+
+pub returns-then-at_end : goal.returns-then-at_end
+unfolding turned
+returns-then-at_end c =
+    let k = c in
+    rw (← k.random_start-low.ensures, ← k.has_type-down.ensures, ← k.has_type-up.ensures, c.if-at_start.false, c.if-at_end.true)
+
+pub returns : goal.returns
+unfolding turned
+returns c =
+    let k = c in
+    rw (← k.random_start-low.ensures, ← k.has_type-down.ensures, ← k.has_type-up.ensures, c.if-at_start.false, c.if-at_end.false)

@@ -1,0 +1,62 @@
+-- `hit_object_lines::put_lines` meets its contract. The invariant: the lines of the first i notes are stored. The measure is the number of notes left. Assumes nothing.
+use mathlib.Core.Path.{◌≡◌, refl, sym, ◌∙◌}
+use Prim.Native.Nat.{◌+◌, ◌-◌, ◌≤◌, ◌<◌}
+use native.Mathlib.Omega.{arith}
+use lib.ListN.{length, get_or, take}
+use lib.Seq.{take_all}
+use Rattle.chart.specs.Chart.{notes_in, blank}
+use Rattle.chart.specs.Laws.Bytes.{splice_none}
+use Rattle.text.specs.Laws.{wrote_first, wrote_next}
+use Rattle.hit_object_lines.specs.Lines.{line_text, line_of}
+use Rattle.hit_object_lines.specs.Laws.Notes.{standing_at}
+use Rattle.hit_object_lines.specs.Laws.Chart.{whole_at, lines_none, lines_more, lines_next, lines_split}
+use Rattle.hit_object_lines.proofs.put_lines.Goals as goal
+
+pub loop-i-init : goal.loop-i-init
+loop-i-init c =
+    let a = c.args in
+    let none = lines_none a.columns (notes_in a.chart.now) in
+    (omega arith, (refl, wrote_first _ (rw none (sym (splice_none a.s.now 0 (omega arith)))) (rw none)))
+
+pub note_of-n-requires : goal.note_of-n-requires
+note_of-n-requires c = omega (arith, c.requires.notes.size)
+
+pub put_line-at-requires : goal.put_line-at-requires
+put_line-at-requires c =
+    let l = c.loop-i in
+    let s = c in
+    let ns = notes_in s.args.chart.now in
+    let below : l.i < length ns = omega (arith, s.requires.notes.size) in
+    let note = c.note_of-n.ensures in (
+      record {
+        some_columns = s.requires.notes.some_columns;
+        stands = rw note (standing_at s.args.columns 0 ns s.requires.notes.ok l.i blank below);
+        whole = rw note (whole_at ns s.requires.chart_value.0 l.i blank below);
+      },
+      rw note (omega (arith, l.invariant.1.0, l.invariant.1.1.next, s.requires.chart_value.1, lines_split s.args.columns ns l.i, lines_next s.args.columns ns l.i below)),
+    )
+
+pub loop-i-preserved : goal.loop-i-preserved
+loop-i-preserved c =
+    let put = c in
+    let note = put.note_of-n.ensures in
+    let l = c.loop-i in
+    let s = c in
+    let ns = notes_in s.args.chart.now in
+    let below : l.i < length ns = omega (arith, s.requires.notes.size) in
+    let fits : l.at + length (line_text (line_of s.args.columns (get_or ns l.i blank))) ≤ length s.args.s.now =
+    omega (arith, l.invariant.1.1.next, s.requires.chart_value.1, lines_split s.args.columns ns l.i, lines_next s.args.columns ns l.i below) in
+    let line = wrote_next (line_text (line_of s.args.columns (get_or ns l.i blank))) l.invariant.1.1 (put.put_line-at.ensures.s_after ∙ rw note) (put.put_line-at.ensures.value ∙ rw note) (rw (put.put_line-at.ensures.value, note) fits) in
+    (omega arith, (put.put_line-at.auto.s ∙ l.invariant.1.0, rw (lines_more s.args.columns ns l.i below) line))
+
+pub shape_of-s : goal.shape_of-s
+shape_of-s c = c.loop-i.invariant.1.0
+
+pub returns : goal.returns
+returns c =
+    let l = c.loop-i in
+    let s = c in
+    let ns = notes_in s.args.chart.now in
+    let all : take l.i ns ≡ ns = take_all l.i ns (omega (arith, s.requires.notes.size)) in
+    let lines = rw all at l.invariant.1.1 in
+    lines.bytes

@@ -1,0 +1,79 @@
+-- `hit_object_lines::text_size` meets its contract. The invariant: the notes before the i-th are whole, and their lines have `size` bytes. The measure is the number of notes left. Assumes nothing.
+use mathlib.Core.Path.{◌≡◌, refl, sym, ◌∙◌}
+use Prim.Native.Nat.{◌-◌, ◌≤◌, ◌<◌}
+use native.Mathlib.Omega.{arith}
+use lib.ListN.{length}
+use Rattle.chart.specs.Chart.{notes_in, blank}
+use Rattle.hit_object_lines.specs.Lines.{chart_lines}
+use Rattle.hit_object_lines.specs.Told.{size_of}
+use Rattle.hit_object_lines.specs.Laws.Notes.{standing_at}
+use Rattle.hit_object_lines.specs.Laws.Chart.{whole_next, whole_fails, whole_all, lines_next, lines_all}
+use Rattle.hit_object_lines.proofs.text_size.Goals as goal
+
+pub loop-i-init : goal.loop-i-init
+loop-i-init c = (omega arith, (omega arith, (refl, omega arith)))
+
+pub note_of-n-requires : goal.note_of-n-requires
+note_of-n-requires c = omega (arith, c.requires.size)
+
+pub is_whole-requires : goal.is_whole-requires
+is_whole-requires c =
+    let l = c.loop-i in
+    let s = c in
+    let ns = notes_in s.args.chart.now in
+    let below : l.i < length ns = omega (arith, s.requires.size) in
+    rw c.note_of-n.ensures (standing_at s.args.columns 0 ns s.requires.ok l.i blank below)
+
+pub returns-then-not-is_whole : goal.returns-then-not-is_whole
+unfolding size_of
+returns-then-not-is_whole c =
+    let l = c.loop-i in
+    let s = c in
+    let ns = notes_in s.args.chart.now in
+    let below : l.i < length ns = omega (arith, s.requires.size) in
+    let bad = rw c.note_of-n.ensures at (sym c.is_whole.ensures ∙ c.if-not-is_whole.true) in
+    rw (l.invariant.1.1.0 ∙ whole_fails ns l.i below bad)
+
+pub line_size-size-requires : goal.line_size-size-requires
+line_size-size-requires c =
+    let l = c.loop-i in
+    let s = c in
+    let ns = notes_in s.args.chart.now in
+    let below : l.i < length ns = omega (arith, s.requires.size) in
+    record {
+      some_columns = s.requires.some_columns;
+      stands = rw c.note_of-n.ensures (standing_at s.args.columns 0 ns s.requires.ok l.i blank below);
+      whole = sym c.is_whole.ensures ∙ c.if-not-is_whole.false;
+    }
+
+pub overflow_add-size : goal.overflow_add-size
+overflow_add-size c = omega (arith, c.line_size-size.ensures.1)
+
+pub loop-i-preserved : goal.loop-i-preserved
+loop-i-preserved c =
+    let l = c.loop-i in
+    let s = c in
+    let ns = notes_in s.args.chart.now in
+    let below : l.i < length ns = omega (arith, s.requires.size) in
+    let note = c.note_of-n.ensures in
+    let good = rw note at (sym c.is_whole.ensures ∙ c.if-not-is_whole.false) in
+    let size = rw note at c.line_size-size.ensures.0 in (
+      omega arith,
+      (
+        omega (arith, c.line_size-size.ensures.1),
+        (
+          l.invariant.1.1.0 ∙ whole_next ns l.i below good,
+          omega (arith, l.invariant.1.1.1, lines_next s.args.columns ns l.i below, size),
+        ),
+      ),
+    )
+
+pub returns : goal.returns
+unfolding size_of
+returns c =
+    let l = c.loop-i in
+    let s = c in
+    let ns = notes_in s.args.chart.now in
+    let done : length ns ≤ l.i = omega (arith, s.requires.size) in
+    let size : length (chart_lines s.args.columns ns) ≡ l.size = l.invariant.1.1.1 ∙ rw (lines_all s.args.columns ns l.i done) (omega arith) in
+    rw (l.invariant.1.1.0 ∙ whole_all s.args.columns ns l.i done, size)

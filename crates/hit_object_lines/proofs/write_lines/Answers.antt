@@ -1,0 +1,35 @@
+-- `hit_object_lines::write_lines` meets its contract. Assumes nothing.
+use mathlib.Core.Path.{refl, sym, ap, ◌∙◌}
+use native.Mathlib.Omega.{arith}
+use Rattle.chart.specs.Chart.{meaning}
+use Rattle.hit_object_lines.specs.Laws.Chart.{read_notes_law, read_refused}
+use Rattle.hit_object_lines.proofs.write_lines.Goals as goal
+
+pub overflow_cast-columns : goal.overflow_cast-columns
+overflow_cast-columns c =
+    let k = c in
+    let s = k in
+    let n = k.columns-1.given.0 in
+    let is = read_notes_law s.args.chart.now s.args.text.now n.0 n.1.0 n.1.1.0 n.1.1.1.0 (sym (ap meaning k.in-Chart.is) ∙ k.read.ensures) in
+    omega (arith, is.1.0)
+
+pub write_notes-requires : goal.write_notes-requires
+write_notes-requires c =
+    let k = c in
+    let s = k in
+    let n = k.columns-1.given.0 in
+    let is = read_notes_law s.args.chart.now s.args.text.now n.0 n.1.0 n.1.1.0 n.1.1.1.0 (sym (ap meaning k.in-Chart.is) ∙ k.read.ensures) in
+    is.0
+
+pub returns-in-Chart : goal.returns-in-Chart
+returns-in-Chart c =
+    let k = c in
+    let s = k in
+    let n = k.columns-1.given.0 in
+    let is = read_notes_law s.args.chart.now s.args.text.now n.0 n.1.0 n.1.1.0 n.1.1.1.0 (sym (ap meaning k.in-Chart.is) ∙ k.read.ensures) in
+    rw is.1.1 c.write_notes.ensures
+
+pub returns-in-Refused : goal.returns-in-Refused
+returns-in-Refused c =
+    let s = c in
+    rw (read_refused s.args.chart.now s.args.text.now _ (sym (ap meaning c.in-Refused.is) ∙ c.read.ensures)) (refl, refl)

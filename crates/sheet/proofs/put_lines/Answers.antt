@@ -1,0 +1,45 @@
+-- `sheet::put_lines` meets its contract. The invariant: the first i lines are stored. The measure is what is left of them. Assumes nothing.
+use mathlib.Core.Path.{◌≡◌, refl, sym, ◌∙◌}
+use Prim.Native.Nat.{◌+◌, ◌-◌, ◌*◌}
+use native.Mathlib.Omega.{arith}
+use lib.ListN.{length}
+use Rattle.chart.specs.Chart.{notes_in}
+use Rattle.chart.specs.Laws.Bytes.{splice_none}
+use Rattle.text.specs.Laws.{wrote_first, wrote_next}
+use Rattle.sheet.specs.Layout.{line_size}
+use Rattle.sheet.specs.Sheet.{line_at}
+use Rattle.sheet.specs.Laws.{length_line, lines_none, lines_more}
+use Rattle.sheet.proofs.put_lines.Goals as goal
+
+pub loop-i-init : goal.loop-i-init
+loop-i-init c =
+    let a = c.args in
+    let none = lines_none a.columns (notes_in a.chart.now) in
+    (omega arith, (refl, wrote_first _ (rw none (sym (splice_none a.s.now 0 (omega arith)))) (rw none)))
+
+pub put_line-requires : goal.put_line-requires
+put_line-requires c =
+    let s = c in
+    let l = c.loop-i in
+    (s.requires.0, s.requires.1, omega (arith, c.loop-i-test.true, s.requires.2), omega (arith, c.loop-i-test.true, s.requires.3, l.invariant.1.0))
+
+pub loop-i-preserved : goal.loop-i-preserved
+loop-i-preserved c =
+    let put = c in
+    let in-loop = put in
+    let l = in-loop.loop-i in
+    let s = in-loop in
+    let ns = notes_in s.args.chart.now in
+    let kept : length put.put_line.new.s ≡ length s.args.s.now = put.put_line.auto.s ∙ l.invariant.1.0 in
+    let size = length_line s.args.columns ns s.requires.0 l.i (rw (← s.requires.1) (omega (arith, in-loop.loop-i-test.true, s.requires.2))) in
+    let more = wrote_next {next = line_size * (l.i + 1)} (line_at s.args.columns ns l.i) l.invariant.1.1 put.put_line.ensures (omega (arith, size)) (omega (arith, in-loop.loop-i-test.true, s.requires.3)) in
+    (omega arith, (kept, rw (lines_more s.args.columns ns l.i) more))
+
+pub shape_of-s : goal.shape_of-s
+shape_of-s c = c.loop-i.invariant.1.0
+
+pub returns : goal.returns
+returns c =
+    let l = c.loop-i in
+    let done : l.i ≡ c.args.end = omega arith in
+    rw done at l.invariant.1.1.bytes

@@ -1,0 +1,29 @@
+-- `sheet::put_read` meets its contract: a law for each answer. Assumes nothing.
+use mathlib.Core.Path.{◌≡◌}
+use Prim.Native.Nat.{◌*◌}
+use native.Mathlib.Nat.{le_refl}
+use lib.ListN.{length}
+use Rattle.chart.specs.Chart.{notes_in}
+use Rattle.sheet.specs.Layout.{page_lines, line_size}
+use Rattle.sheet.specs.Sheet.{lines, pages}
+use Rattle.sheet.specs.Laws.{length_lines, too_short, in_buffer}
+use Rattle.sheet.proofs.put_read.Goals as goal
+use Rattle.sheet.proofs.put_read.Goals.{Start}
+
+-- the sheet's length
+size : (c : Start) → length (lines c.args.columns (notes_in c.args.chart.now) (page_lines * pages c.args.count)) ≡ line_size * (page_lines * pages c.args.count)
+size c = length_lines c.args.columns (notes_in c.args.chart.now) c.requires.0 (page_lines * pages c.args.count) (rw c.requires.1 (le_refl _))
+
+pub returns-then-s-size : goal.returns-then-s-size
+returns-then-s-size c =
+    let s = c in
+    too_short _ _ (rw (size (goal.at.returns-then-s-size c).Start, ← c.pages_of-end.ensures) c.if-s-size.true)
+
+pub returns : goal.returns
+returns c =
+    let put = c in
+    let else = put in
+    let s = else in
+    let fits = rw else.pages_of-end.ensures at else.if-s-size.false in
+    let text = lines s.args.columns (notes_in s.args.chart.now) (page_lines * pages s.args.count) in
+    rw (put.put_lines.ensures, else.pages_of-end.ensures) (rw (size (goal.at.returns c).Start) at (in_buffer text s.args.s.now (rw (size (goal.at.returns c).Start) fits)))
