@@ -9,6 +9,7 @@ use native.Mathlib.Nat.{pow-suc, add-zero, zero-add, le_refl}
 use native.Mathlib.Numerals.{add-one}
 use native.Mathlib.Omega.{arith}
 use lib.Dec.{eqb, ltb}
+use Rattle.std.specs.Prelude.{cond}
 use lib.ListN.{length, get_or, take, drop, replicate, length-replicate, length-drop}
 use lib.Seq.{take_at, drop_at, take_all, take-suc, drop-drop, take-append-le, drop-append-le}
 use borrow.Author.Tests.{eq-eqb, ne_eqb, lt-ltb, eqb-true, ltb-true, ltb-false}
@@ -29,7 +30,7 @@ use Rattle.sheet.specs.Claims.{Shown, shown, number, marks, read_line, line_in, 
 number_append : (x : ℕ) (a b : List ℕ) → number x (a ++ b) ≡ number (number x a) b
 unfolding number
 number_append x [] b = refl
-number_append x (c ∷ cs) b = number_append (if eqb c space then x else x * 10 + (c - 48)) cs b
+number_append x (c ∷ cs) b = number_append (cond (eqb c space) x (x * 10 + (c - 48))) cs b
 
 number_spaces : (x k : ℕ) → number x (replicate k space) ≡ x
 unfolding number

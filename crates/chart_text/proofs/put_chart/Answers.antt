@@ -15,8 +15,8 @@ put_head_line-at-requires c =
     let arm = c in
     let read = arm in
     let s = read.args.chart.now in
-    let n = arm.columns-1.given.0 in
-    let is = read_text s n.0 n.1.0 n.1.1.0 n.1.1.1.0 (sym read.read.ensures ∙ ap meaning arm.in-Chart.is) in
+    let n = arm.in-Chart in
+    let is = read_text s n.version n.columns n.notes n.draws (sym read.read.ensures ∙ ap meaning arm.in-Chart.is) in
     omega (arith, is.size, read.requires)
 
 pub put_note_lines-requires : goal.put_note_lines-requires
@@ -25,8 +25,8 @@ put_note_lines-requires c =
     let arm = head in
     let read = arm in
     let s = read.args.chart.now in
-    let n = arm.columns-1.given.0 in
-    let is = read_text s n.0 n.1.0 n.1.1.0 n.1.1.1.0 (sym read.read.ensures ∙ ap meaning arm.in-Chart.is) in
+    let n = arm.in-Chart in
+    let is = read_text s n.version n.columns n.notes n.draws (sym read.read.ensures ∙ ap meaning arm.in-Chart.is) in
     (is.number, omega (arith, is.size, read.requires, head.put_head_line-at.ensures.value.1, head.put_head_line-at.auto.s))
 
 pub returns-in-Chart : goal.returns-in-Chart
@@ -36,8 +36,8 @@ returns-in-Chart c =
     let arm = head in
     let read = arm in
     let s = read.args.chart.now in
-    let n = arm.columns-1.given.0 in
-    let is = read_text s n.0 n.1.0 n.1.1.0 n.1.1.1.0 (sym read.read.ensures ∙ ap meaning arm.in-Chart.is) in
+    let n = arm.in-Chart in
+    let is = read_text s n.version n.columns n.notes n.draws (sym read.read.ensures ∙ ap meaning arm.in-Chart.is) in
     let fits : notes.put_note_lines.result ≤ length read.args.s.now =
     omega (arith, is.size, read.requires, head.put_head_line-at.ensures.value.1, notes.put_note_lines.ensures.value.1) in
     let lines = wrote_next _ (wrote_first _ head.put_head_line-at.ensures.s_after head.put_head_line-at.ensures.value.0) notes.put_note_lines.ensures.s_after notes.put_note_lines.ensures.value.0 fits in

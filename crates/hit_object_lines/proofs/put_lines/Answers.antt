@@ -49,9 +49,6 @@ loop-i-preserved c =
     let line = wrote_next (line_text (line_of s.args.columns (get_or ns l.i blank))) l.invariant.1.1 (put.put_line-at.ensures.s_after ∙ rw note) (put.put_line-at.ensures.value ∙ rw note) (rw (put.put_line-at.ensures.value, note) fits) in
     (omega arith, (put.put_line-at.auto.s ∙ l.invariant.1.0, rw (lines_more s.args.columns ns l.i below) line))
 
-pub shape_of-s : goal.shape_of-s
-shape_of-s c = c.loop-i.invariant.1.0
-
 pub returns : goal.returns
 returns c =
     let l = c.loop-i in

@@ -12,6 +12,7 @@ use Rattle.model.specs.Limits.{latest_end}
 use Rattle.chart.specs.declared.Note.{Note}
 use Rattle.chart.specs.Time.{time, latest}
 use Rattle.chart.specs.Tests.{both, passes}
+use Rattle.chart.specs.Order.{rank}
 use Rattle.chart.specs.Chart.{ok_note, ok_notes, note_tests}
 use Rattle.chart.specs.Laws.Reader.{note_fits}
 use Rattle.hit_object_lines.specs.Lines.{circle, hold, millisecond, start_of, end_of, is_whole, x_of, line_of}
@@ -39,7 +40,7 @@ pub standing_at : (c l : ℕ) (ns : List Note) → ok_notes c l ns ≡ true → 
 unfolding ok_notes
 standing_at c l [] ok i d h = absurd (omega arith)
 standing_at c l (n ∷ ns) ok zero d h = standing c l n (both (ok_note c l n) _ ok).0
-standing_at c l (n ∷ ns) ok (suc i) d h = standing_at c _ ns (both (ok_note c l n) _ ok).1 i d (omega arith)
+standing_at c l (n ∷ ns) ok (suc i) d h = standing_at c (rank n) ns (both (ok_note c l n) _ ok).1 i d (omega arith)
 
 -- a note that has a line
 pub record Writable (columns : ℕ) (n : Note) : Type 0 where

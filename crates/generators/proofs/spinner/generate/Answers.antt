@@ -11,20 +11,15 @@ use denote.Triple.Clauses.{AtExit}
 use denote.Triple.Entry.{Args}
 use Rattle.generators.specs.declared.LentEnd.{LentEnd}
 use Rattle.generators.proofs.Lent.{lent_clauses}
-use Rattle.generators.proofs.Lent.Generate.{met}
 use Rattle.generators.proofs.spinner.Asked.{generator}
 use Rattle.generators.proofs.spinner.take_turn.Symbol as turn
 use Rattle.generators.proofs.spinner.take_turn.Met as turn-met
 use Rattle.generators.specs.contracts.spinner.generate as f
 use Rattle.generators.specs.contracts.spinner.generate.Key as key
-use Rattle.generators.proofs.spinner.generate.Statement.{statement}
 use Rattle.generators.proofs.spinner.generate.Code as code
+use Rattle.generators.proofs.spinner.generate.Goals as goal
 
 -- what the contract says at exit is what the walk shows
 ensures-is : {M : Type 1} {𝓤 : Ura M} (𝓛 : Logic 𝓤) (mem : Memory → SProp 𝓤) (run : Routine → Fun 𝓤) (κs : Lfts 3) (a : Args f.signature κs) (r : LentEnd) (e : AtExit f.ended κs)
     → (f.clauses 𝓛 mem run κs a).ensures tt r e ≡ (lent_clauses generator 𝓤 κs a).ensures tt r e
 ensures-is 𝓛 mem run κs a r e = refl
-
-pub generate-spec : {M : Type 1} → statement M
-unfolding code.routine
-generate-spec 𝓤 𝓛 𝓜 𝓡 = met generator 𝓛 𝓜 𝓡 code.env key.name turn.name turn.routine (code.unfolded 𝓤 𝓛.H 𝓜 𝓡) code.calls-generators::spinner::take-turn (turn-met.met 𝓤 𝓛 𝓜 𝓡)

@@ -1,0 +1,45 @@
+-- `path_object::generate_core` meets its contract. Assumes nothing.
+use mathlib.Core.Path.{sym}
+use native.Mathlib.Omega.{arith}
+use Rattle.slider_notes.specs.Words.{of_word}
+use Rattle.pattern.specs.Laws.Words.{empty_is}
+use Rattle.slider_patterns.proofs.Bounds.{places}
+use Rattle.path_object.proofs.Bounds.{fits}
+use borrow.Author.Tests.{lt-ltb, le-ltb, eq-eqb, ne_eqb}
+use Rattle.mania.specs.PathObject.{generate_core}
+use Rattle.slider_notes.proofs.Words.{add_on}
+use Rattle.path_object.proofs.generate_core.Goals as goal
+
+pub returns-then-columns-eq1 : goal.returns-then-columns-eq1
+unfolding generate_core
+returns-then-columns-eq1 c =
+    let s = c in
+    let w = c.put_slider_note-p.ensures in
+    record {
+      says =
+          rw (w.is, empty_is of_word s.args.words.now)
+          (sym (rw (eq-eqb _ _ c.if-columns-eq1.true) (add_on s.args.g 0 s.args.g.start s.args.g.end _ s.args.d (omega (arith, s.requires.0.low)))));
+      few = omega (arith, w.more);
+    }
+
+pub generate_spans-requires : goal.generate_spans-requires
+generate_spans-requires c =
+    let s = c in
+    (fits _ _ s.requires.0 s.requires.1 c.if-columns-eq1.false, s.requires.0.share)
+
+pub returns-then-spans-gt1 : goal.returns-then-spans-gt1
+unfolding generate_core
+returns-then-spans-gt1 c =
+    places _ _ _ _ _ _ c.generate_spans.ensures
+    (rw (ne_eqb _ _ c.if-columns-eq1.false, lt-ltb _ _ c.if-spans-gt1.true)) (omega arith)
+
+pub generate_span-requires : goal.generate_span-requires
+generate_span-requires c =
+    let s = c in
+    fits _ _ s.requires.0 s.requires.1 c.if-columns-eq1.false
+
+pub returns : goal.returns
+unfolding generate_core
+returns c =
+    places _ _ _ _ _ _ c.generate_span.ensures
+    (rw (ne_eqb _ _ c.if-columns-eq1.false, le-ltb _ _ c.if-spans-gt1.false)) (omega arith)
