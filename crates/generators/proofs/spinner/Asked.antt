@@ -1,8 +1,0 @@
--- What the generator is asked and what it comes to, as the walks take it. Assumes nothing.
-use Rattle.generators.proofs.Lent.{Generator}
-use Rattle.generators.specs.Spinner.{Asks, Ends}
-use Rattle.generators.specs.contracts.spinner.Ask as S
-use Rattle.generators.proofs.spinner.Ask.TheLaws as S'
-
-abbrev pub generator : Generator
-generator = record { ask = S.the_type; laws = S'.the_laws; copy = S'.the_copy; plain_data = S'.the_plain; Asks = λ a n k. Asks a n; Ends = Ends }
