@@ -135,7 +135,7 @@ notes_back columns last (n ∷ ns) low high ok whole (suc k) l =
     let sizes = length-append line (chart_lines columns ns) in
     let long = line_long (line_of columns n) in
     row_step k columns (line ++ chart_lines columns ns) (untold n) (chart_lines columns ns) (omega arith) (row_back columns last n low high here.0 own.0 (chart_lines columns ns))
-    ∙ ap (Option.map (λ ms. untold n ∷ ms)) (notes_back columns _ ns low high here.1 own.1 k (omega arith))
+    ∙ ap (Option.map (λ ms. untold n ∷ ms)) (notes_back columns (rank n) ns low high here.1 own.1 k (omega arith))
 
 -- notes of a chart are in order
 ok_in_order : (columns last : ℕ) (ns : List Note) → ok_notes columns last ns ≡ true → in_order last (map untold ns) ≡ true

@@ -1,0 +1,46 @@
+-- `hit_object_reader::read_with` meets its contract. Assumes nothing.
+use mathlib.Core.Path.{refl, sym, ap, ◌∙◌}
+use Prim.Native.Nat.{◌≤◌}
+use native.Mathlib.Omega.{arith}
+use lib.ListN.{length}
+use Rattle.chart.specs.Layout.{chart_size_in}
+use Rattle.chart.specs.declared.Version.TheVariants.{One}
+use Rattle.chart.specs.Laws.Notes.{encode_put}
+use Rattle.hit_object_reader.specs.Told.{checked_told, lines_notes}
+use Rattle.hit_object_reader.specs.Laws.Texts.{counted, refused_lines, too_short, made}
+use Rattle.hit_object_reader.proofs.read_with.Goals as goal
+
+pub returns-then-size-chart : goal.returns-then-size-chart
+returns-then-size-chart c =
+    let b = c in
+    let s = b.args.s.now in
+    let ns = lines_notes b.args.columns s in
+    let g = c.in-Notes in
+    let w = counted b.args.columns b.requires s g.count (sym (ap checked_told g.is) ∙ c.check_lines.ensures) in
+    rw (too_short b.args.columns s b.args.chart.now ns w.1.0 (omega (arith, w.1.1))) (record { result_value = refl; chart_after = refl })
+
+pub put_notes-requires : goal.put_notes-requires
+put_notes-requires c =
+    let b = c in
+    let s = b.args.s.now in
+    let ns = lines_notes b.args.columns s in
+    let g = c.in-Notes in
+    let w = counted b.args.columns b.requires s g.count (sym (ap checked_told g.is) ∙ c.check_lines.ensures) in
+    record { columns = (b.requires, w.0); s_in_bounds = omega (arith, w.1.1) }
+
+pub returns-else-size-chart : goal.returns-else-size-chart
+returns-else-size-chart c =
+    let b = c in
+    let s = b.args.s.now in
+    let ns = lines_notes b.args.columns s in
+    let g = c.in-Notes in
+    let w = counted b.args.columns b.requires s g.count (sym (ap checked_told g.is) ∙ c.check_lines.ensures) in
+    let fits : chart_size_in One (length ns) ≤ length b.args.chart.now = omega (arith, w.1.1) in
+    let head = c.put_old_header.ensures in
+    let whole = rw w.1.1 at (encode_put One b.args.chart.now b.args.columns 0 ns fits) in
+    rw (made b.args.columns s b.args.chart.now ns w.1.0 fits) (record { result_value = rw w.1.1; chart_after = c.put_notes.ensures ∙ rw head whole })
+
+pub returns-in-Refused : goal.returns-in-Refused
+returns-in-Refused c =
+    let b = c in
+    rw (refused_lines b.args.columns b.args.s.now b.args.chart.now (sym (ap checked_told c.in-Refused.is) ∙ c.check_lines.ensures)) (record { result_value = refl; chart_after = refl })

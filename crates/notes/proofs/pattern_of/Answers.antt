@@ -1,0 +1,7 @@
+-- `notes::pattern_of` meets its contract. Assumes nothing.
+use Rattle.mania.specs.Chart.{pattern_of}
+use Rattle.notes.proofs.pattern_of.Goals as goal
+
+pub returns : goal.returns
+unfolding pattern_of
+returns c = rw (c.bits_f64-start.ensures, c.bits_f64-duration.ensures)

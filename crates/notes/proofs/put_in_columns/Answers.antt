@@ -1,0 +1,27 @@
+-- `notes::put_in_columns` meets its contract. The loop's invariant: the first i rows are written. Assumes nothing.
+use mathlib.Core.Path.{ap, ◌∙◌}
+use Prim.Native.Nat.{◌-◌}
+use native.Mathlib.Omega.{arith}
+use Rattle.notes.proofs.Columns.{row_in, row_is}
+use Rattle.notes.proofs.Written.{none_yet, put_next, all_written}
+use Rattle.notes.proofs.put_in_columns.Goals as goal
+
+pub loop-i-init : goal.loop-i-init
+loop-i-init c = none_yet _ _ _ _ _ (omega arith) (omega arith)
+
+pub put_note-requires : goal.put_note-requires
+put_note-requires c = (omega arith, omega arith, omega arith)
+
+pub loop-i-preserved : goal.loop-i-preserved
+loop-i-preserved c =
+    let put = c in
+    let row = put in
+    let word = row in
+    let loop = word.loop-i in
+    put_next _ _ _ _ _ _ _ loop.invariant (omega arith) (rw (word.column_of.ensures, row.pinned.ensures, row.pinned-in-loop-i.ensures)) put.put_note.ensures
+
+pub returns : goal.returns
+returns c =
+    let loop = c in
+    let begin = loop in
+    all_written _ _ _ _ _ _ _ _ _ loop.loop-i.invariant c.loop-i-test.false (ap (row_in _) begin.pattern_of-p.ensures ∙ row_is _ _)

@@ -1,0 +1,27 @@
+-- `notes::put_slider_notes` meets its contract. The loop's invariant: the first i notes are written. Assumes nothing.
+use mathlib.Core.Path.{refl}
+use Prim.Native.Nat.{◌-◌}
+use native.Mathlib.Omega.{arith}
+use Rattle.chart.specs.declared.Note as Patterns
+use Rattle.slider_notes.specs.Words.{note_of_word}
+use Rattle.notes.proofs.Columns.{slider_narrow, told_below}
+use Rattle.notes.proofs.Written.{none_yet, put_next, all_written}
+use Rattle.notes.proofs.put_slider_notes.Goals as goal
+
+pub loop-i-init : goal.loop-i-init
+loop-i-init c = none_yet _ _ _ _ _ (omega arith) (omega arith)
+
+pub put_note-requires : goal.put_note-requires
+put_note-requires c =
+    let made = c in
+    (rw (made.pattern_of-p.ensures, made.note_of-n.ensures) (slider_narrow _ _), rw made.pattern_of-p.ensures (told_below _ _ (omega arith)), omega arith)
+
+pub loop-i-preserved : goal.loop-i-preserved
+loop-i-preserved c =
+    let put = c in
+    let made = put in
+    let loop = made.loop-i in
+    put_next _ _ _ _ _ _ _ loop.invariant (omega arith) (rw (made.pattern_of-p.ensures, made.note_of-n.ensures)) put.put_note.ensures
+
+pub returns : goal.returns
+returns c = all_written _ _ _ note_of_word _ _ _ _ _ c.loop-i.invariant c.loop-i-test.false refl

@@ -1,0 +1,34 @@
+-- `object::generate` meets its contract, kind by kind. Assumes nothing.
+use mathlib.Core.Path.{subst}
+use native.Mathlib.Omega.{arith}
+use Rattle.mania.specs.Range.{FewRepeats}
+use Rattle.object.proofs.Decks.{circle_ends, slider_ends, spinner_ends, hold_ends}
+use Rattle.object.proofs.generate.Goals as goal
+
+pub generate_slider-requires : goal.generate_slider-requires
+generate_slider-requires c =
+    let p = c.requires in
+    (p.low, p.high, subst FewRepeats c.in-Slider.is p.range.repeats, p.range.start, omega (arith, p.words), omega (arith, p.spare))
+
+pub returns-in-Circle : goal.returns-in-Circle
+returns-in-Circle c =
+    let s = c in
+    circle_ends _ _ _ _ _ _ _ c.in-Circle.is s.requires.low c.generate_circle.ensures
+
+pub returns-in-Slider : goal.returns-in-Slider
+returns-in-Slider c =
+    let s = c in
+    let k = c.in-Slider in
+    slider_ends _ _ _ _ _ _ _ k.repeats k.distance k.node k.is s.requires.low c.generate_slider.ensures
+
+pub returns-in-Spinner : goal.returns-in-Spinner
+returns-in-Spinner c =
+    let s = c in
+    let k = c.in-Spinner in
+    spinner_ends _ _ _ _ _ _ _ k.duration s.requires.last s.requires.mask c.generate_owned.ensures k.is
+
+pub returns-in-Hold : goal.returns-in-Hold
+returns-in-Hold c =
+    let s = c in
+    let k = c.in-Hold in
+    hold_ends _ _ _ _ _ _ _ k.duration s.requires.last s.requires.mask c.generate_owned-in-Hold.ensures k.is

@@ -1,0 +1,25 @@
+-- `object::generate_slider` meets its contract. Assumes nothing.
+use mathlib.Core.Path.{subst}
+use native.Mathlib.Omega.{arith}
+use Rattle.model.specs.Limits.{most_notes}
+use Rattle.random.specs.Play.{on}
+use Rattle.mania.specs.declared.PathObjectPatternGenerator.{PathObjectPatternGenerator}
+use Rattle.mania.specs.PathObject as PathObject
+use Rattle.pattern.specs.Answers.{Generates}
+use Rattle.slider_notes.specs.Words.{note_of_word}
+use Rattle.object.proofs.Ready.{ready}
+use Rattle.object.proofs.generate_slider.Goals as goal
+
+pub generate_owned-requires : goal.generate_owned-requires
+generate_owned-requires c =
+    let s = c in
+    let a = s.args in (
+      rw c.new-g.ensures (ready a.f a.v a.columns a.o a.repeats a.distance a.node _ s.requires.0 s.requires.1 s.requires.2 s.requires.3 (omega (arith, s.requires.5))),
+      omega (arith, s.requires.4),
+    )
+
+pub returns : goal.returns
+returns c =
+    let a = c.args in
+    let k = c.generate_owned in
+    subst (λ (g : PathObjectPatternGenerator). Generates note_of_word k.new.words (on (PathObject.generate g) a.d) most_notes k.result) c.new-g.ensures k.ensures
