@@ -1,5 +1,7 @@
 -- `notes::put_notes` meets its contract, kind by kind. Assumes nothing.
 use mathlib.Core.Path.{◌∙◌}
+use Rattle.mania.specs.EndTimeObject.{lasting, end_note}
+use Rattle.end_time_object.specs.Answers.{end_note_at}
 use Rattle.object.specs.Notes.{note_by, note_at}
 use Rattle.notes.proofs.Columns.{circles_in, ends_in}
 use Rattle.notes.proofs.put_notes.Goals as goal
@@ -18,14 +20,14 @@ returns-in-Slider c =
     put.put_slider_notes.ensures ∙ rw put.in-Slider.is
 
 pub returns-in-Spinner : goal.returns-in-Spinner
-unfolding note_at note_by
+unfolding note_at note_by end_note_at end_note lasting
 returns-in-Spinner c =
     let put = c in
     let made = put in
     put.put_in_columns-in-Spinner.ensures ∙ rw (made.end_note_at.ensures, ends_in, made.in-Spinner.is)
 
 pub returns-in-Hold : goal.returns-in-Hold
-unfolding note_at note_by
+unfolding note_at note_by end_note_at end_note lasting
 returns-in-Hold c =
     let put = c in
     let made = put in
