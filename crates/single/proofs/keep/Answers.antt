@@ -1,0 +1,21 @@
+-- `single::keep` meets its contract. Assumes nothing.
+use mathlib.Core.Path.{refl, ◌∙◌}
+use Prim.Native.Nat.{◌*◌}
+use native.Mathlib.Omega.{arith}
+use lib.ListN.{length}
+use borrow.Author.Tests.{lt-ltb, le-ltb}
+use Rattle.mania.specs.Laws.Walks.{splice_start}
+use Rattle.single.specs.Ends.{full, kept}
+use Rattle.chart.specs.Layout.{note_size}
+use Rattle.single.proofs.keep.Goals as goal
+
+pub returns-then-notes-count : goal.returns-then-notes-count
+returns-then-notes-count c =
+    let a = c.args in
+    full (lt-ltb (length a.notes.now) (note_size * a.p.count) (omega arith)) refl refl
+
+pub returns : goal.returns
+returns c =
+    let k = c in
+    let a = k.args in
+    kept (le-ltb (length a.notes.now) (note_size * a.p.count) (omega arith)) (k.put_notes.ensures ∙ splice_start a.notes.now _) refl

@@ -1,0 +1,18 @@
+-- `walk::keep` meets its contract. Assumes nothing.
+use Prim.Native.Nat.{◌+◌}
+use native.Mathlib.Omega.{arith}
+use lib.ListN.{length}
+use borrow.Author.Tests.{lt-ltb, le-ltb}
+use Rattle.chart.specs.Layout.{chart_size}
+use Rattle.walk.proofs.keep.Goals as goal
+
+pub returns-then-chart-before : goal.returns-then-chart-before
+returns-then-chart-before c =
+    let a = c.args in
+    lt-ltb (length a.chart.now) (chart_size (a.w.notes + a.p.count)) (omega arith)
+
+pub returns : goal.returns
+returns c =
+    let k = c in
+    let a = k.args in
+    (le-ltb (length a.chart.now) (chart_size (a.w.notes + a.p.count)) (omega arith), k.put_notes.ensures, c.after_object-walk.ensures.0, c.after_object-walk.ensures.1)

@@ -1,0 +1,128 @@
+-- `walk::walk_objects` meets its contract. The loop's invariant is `At`, and that the points kept are in force between their times. Assumes nothing.
+use mathlib.Core.Path.{◌≡◌, refl, sym, ap, ◌∙◌, subst}
+use Prim.Native.Nat.{◌-◌}
+use native.Mathlib.Omega.{arith}
+use mathlib.Core.Bool.{Bool}
+use Rattle.model.specs.declared.Object.{Object}
+use Rattle.record.specs.declared.objects.ReadObject.{ReadObject}
+use Rattle.record.specs.Object.{read_object, object_end, read_at}
+use Rattle.mania.specs.Convert.{facts_at}
+use Rattle.mania.specs.Range.{InRange}
+use Rattle.walk.specs.Steps.{given_facts, InForceAt, density_at, facts_in, StepsBy}
+use Rattle.walk.proofs.Loop.{at_start, in_range_law, at_refused, at_next, at_end, facts_of_law, begun}
+use Rattle.walk.proofs.walk_objects.Goals as goal
+use Rattle.walk.proofs.walk_objects.Goals.{After-convert_object-s, After-read_object-read}
+
+pub loop-i-init : goal.loop-i-init
+loop-i-init c =
+    let s = c in
+    let a = s.args in
+    let b = c.beginning-w in (
+      at_start a.points.now a.part.now a.chart.now a.g a.at a.count a.d b.result b.ensures.1
+          (begun a.g.columns b.result b.ensures.1 b.ensures.0 s.requires.0.low) s.requires.2 s.requires.4 s.requires.1,
+      c.none_in_force-c.ensures _ _,
+      refl,
+      refl,
+      refl,
+    )
+
+pub read_object-read-requires : goal.read_object-read-requires
+read_object-read-requires c = omega (arith, c.loop-i.invariant.0.near, c.requires.3)
+
+pub in_force_at-c-requires : goal.in_force_at-c-requires
+in_force_at-c-requires c = (c.requires.0, c.loop-i.invariant.1)
+
+-- what was read is the object at the place, and where the next one is
+object-is : (c : After-read_object-read) → c.read_object-read.result.object ≡ read_object c.args.part.now c.loop-i.here
+unfolding read_at
+object-is c = ap (λ (x : ReadObject). x.object) c.read_object-read.ensures.0
+
+next-is : (c : After-read_object-read) → c.read_object-read.result.next ≡ object_end c.args.part.now c.loop-i.here
+unfolding read_at
+next-is c = ap (λ (x : ReadObject). x.next) c.read_object-read.ensures.0
+
+pub convert_object-s-requires : goal.convert_object-s-requires
+convert_object-s-requires c =
+    let r = c in
+    let l = r.loop-i in
+    let s = r in
+    let a = s.args in (
+      omega (arith, s.requires.3),
+      s.requires.0.low,
+      s.requires.0.high,
+      l.invariant.0.sound,
+      subst InRange (sym (object-is (goal.at.convert_object-s-requires c).After-read_object-read)) (in_range_law a.points.now a.part.now a.chart.now a.g a.at a.count a.d l.chart l.w l.here l.rest l.i (omega arith) l.invariant.0),
+      omega (arith, l.invariant.0.few, s.requires.3),
+      omega (arith, s.requires.5),
+      omega (arith, s.requires.6),
+    )
+
+pub shape_of-chart-then-s : goal.shape_of-chart-then-s
+shape_of-chart-then-s c = c.convert_object-s.auto.chart ∙ c.loop-i.invariant.2
+
+pub shape_of-words-then-s : goal.shape_of-words-then-s
+shape_of-words-then-s c = c.convert_object-s.auto.words ∙ c.loop-i.invariant.3
+
+pub shape_of-spare-then-s : goal.shape_of-spare-then-s
+shape_of-spare-then-s c = c.convert_object-s.auto.spare ∙ c.loop-i.invariant.4
+
+-- what the object's step says, by whether it was refused
+stepped : (k : After-convert_object-s) (b : Bool) → k.convert_object-s.result.refused ≡ b
+    → StepsBy k.loop-i.chart k.convert_object-s.new.chart k.loop-i.i k.args.g k.in_force_at-c.result k.loop-i.w (read_object k.args.part.now k.loop-i.here) k.loop-i.rest b k.convert_object-s.result
+stepped k b e =
+    let a = k.args in
+    let l = k.loop-i in
+    let f = k.in_force_at-c.result in
+    subst (λ (o : Object). StepsBy l.chart k.convert_object-s.new.chart l.i a.g f l.w o l.rest b k.convert_object-s.result) (object-is k.before.before.before.before.before.before)
+    (subst (λ (x : Bool). StepsBy l.chart k.convert_object-s.new.chart l.i a.g f l.w k.read_object-read.result.object l.rest x k.convert_object-s.result) e k.convert_object-s.ensures)
+
+-- the facts that the object met are the song's
+facts_are : (k : After-convert_object-s)
+    → facts_in k.args.g k.in_force_at-c.result k.loop-i.w (read_object k.args.part.now k.loop-i.here)
+    ≡ facts_at (given_facts k.args.points.now k.args.g) (density_at k.loop-i.w (read_object k.args.part.now k.loop-i.here)) (read_object k.args.part.now k.loop-i.here)
+facts_are k =
+    let s = k in
+    let f = k.in_force_at-c in
+    facts_of_law s.args.points.now s.args.g f.result _ _ (subst (λ (o : Object). InForceAt s.args.points.now s.args.g o.start f.result) (object-is k.before.before.before.before.before.before) f.ensures.1)
+
+pub returns-then-s : goal.returns-then-s
+returns-then-s c =
+    let k = c in
+    let l = k.loop-i in
+    let a = k.args in
+    at_refused a.points.now a.part.now a.chart.now a.g a.at a.count a.d l.chart l.w l.here l.rest l.i (omega arith) l.invariant.0
+    k.in_force_at-c.result (facts_are (goal.at.returns-then-s c).After-convert_object-s) k.convert_object-s.result.number k.convert_object-s.result.draws l.invariant.2 (stepped (goal.at.returns-then-s c).After-convert_object-s _ c.if-s.true)
+
+pub overflow_add-i : goal.overflow_add-i
+overflow_add-i c = omega (arith, c.requires.3)
+
+pub loop-i-preserved : goal.loop-i-preserved
+loop-i-preserved c =
+    let k = c in
+    let l = k.loop-i in
+    let a = k.args in
+    let r = k in
+    let f = k.in_force_at-c in (
+      at_next a.points.now a.part.now a.chart.now a.g a.at a.count a.d l.chart l.w l.here l.rest l.i (omega arith) l.invariant.0
+          f.result (facts_are (goal.at.loop-i-preserved c).After-convert_object-s) k.convert_object-s.new.chart k.convert_object-s.result.walk r.read_object-read.result.next k.convert_object-s.result.draws l.invariant.2 (stepped (goal.at.loop-i-preserved c).After-convert_object-s _ c.if-s.false) (next-is (goal.at.loop-i-preserved c).After-read_object-read) r.read_object-read.ensures.1,
+      f.ensures.0,
+      k.convert_object-s.auto.chart ∙ l.invariant.2,
+      k.convert_object-s.auto.words ∙ l.invariant.3,
+      k.convert_object-s.auto.spare ∙ l.invariant.4,
+    )
+
+pub shape_of-chart : goal.shape_of-chart
+shape_of-chart c = c.loop-i.invariant.2
+
+pub shape_of-words : goal.shape_of-words
+shape_of-words c = c.loop-i.invariant.3
+
+pub shape_of-spare : goal.shape_of-spare
+shape_of-spare c = c.loop-i.invariant.4
+
+pub returns : goal.returns
+returns c =
+    let l = c.loop-i in
+    let s = c in
+    let a = s.args in
+    at_end a.points.now a.part.now a.chart.now a.g a.at a.count a.d l.chart l.w l.here l.rest l.i (omega arith) s.requires.3 l.invariant.0
