@@ -1,8 +1,9 @@
 -- `walk::walk_objects` meets its contract. The loop's invariant is `At`, and that the points kept are in force between their times. Assumes nothing.
 use mathlib.Core.Path.{◌≡◌, refl, sym, ap, ◌∙◌, subst}
-use Prim.Native.Nat.{◌-◌}
+use Prim.Native.Nat.{ℕ}
 use native.Mathlib.Omega.{arith}
 use mathlib.Core.Bool.{Bool}
+use mathlib.Core.List.{List}
 use Rattle.model.specs.declared.Object.{Object}
 use Rattle.record.specs.declared.objects.ReadObject.{ReadObject}
 use Rattle.record.specs.Object.{read_object, object_end, read_at}
@@ -11,7 +12,7 @@ use Rattle.mania.specs.Range.{InRange}
 use Rattle.walk.specs.Steps.{given_facts, InForceAt, density_at, facts_in, StepsBy}
 use Rattle.walk.proofs.Loop.{at_start, in_range_law, at_refused, at_next, at_end, facts_of_law, begun}
 use Rattle.walk.proofs.walk_objects.Goals as goal
-use Rattle.walk.proofs.walk_objects.Goals.{After-convert_object-s, After-read_object-read}
+use Rattle.walk.proofs.walk_objects.Goals.{After-convert_object-s}
 
 pub loop-i-init : goal.loop-i-init
 loop-i-init c =
@@ -33,13 +34,13 @@ pub in_force_at-c-requires : goal.in_force_at-c-requires
 in_force_at-c-requires c = (c.requires.0, c.loop-i.invariant.1)
 
 -- what was read is the object at the place, and where the next one is
-object-is : (c : After-read_object-read) → c.read_object-read.result.object ≡ read_object c.args.part.now c.loop-i.here
+object_is : (s : List ℕ) (at : ℕ) (r : ReadObject) → r ≡ read_at s at → r.object ≡ read_object s at
 unfolding read_at
-object-is c = ap (λ (x : ReadObject). x.object) c.read_object-read.ensures.0
+object_is s at r e = ap (λ (x : ReadObject). x.object) e
 
-next-is : (c : After-read_object-read) → c.read_object-read.result.next ≡ object_end c.args.part.now c.loop-i.here
+next_is : (s : List ℕ) (at : ℕ) (r : ReadObject) → r ≡ read_at s at → r.next ≡ object_end s at
 unfolding read_at
-next-is c = ap (λ (x : ReadObject). x.next) c.read_object-read.ensures.0
+next_is s at r e = ap (λ (x : ReadObject). x.next) e
 
 pub convert_object-s-requires : goal.convert_object-s-requires
 convert_object-s-requires c =
@@ -51,7 +52,7 @@ convert_object-s-requires c =
       s.requires.0.low,
       s.requires.0.high,
       l.invariant.0.sound,
-      subst InRange (sym (object-is (goal.at.convert_object-s-requires c).After-read_object-read)) (in_range_law a.points.now a.part.now a.chart.now a.g a.at a.count a.d l.chart l.w l.here l.rest l.i (omega arith) l.invariant.0),
+      subst InRange (sym (object_is _ _ _ c.read_object-read.ensures.0)) (in_range_law a.points.now a.part.now a.chart.now a.g a.at a.count a.d l.chart l.w l.here l.rest l.i (omega arith) l.invariant.0),
       omega (arith, l.invariant.0.few, s.requires.3),
       omega (arith, s.requires.5),
       omega (arith, s.requires.6),
@@ -73,7 +74,7 @@ stepped k b e =
     let a = k.args in
     let l = k.loop-i in
     let f = k.in_force_at-c.result in
-    subst (λ (o : Object). StepsBy l.chart k.convert_object-s.new.chart l.i a.g f l.w o l.rest b k.convert_object-s.result) (object-is k.before.before.before.before.before.before)
+    subst (λ (o : Object). StepsBy l.chart k.convert_object-s.new.chart l.i a.g f l.w o l.rest b k.convert_object-s.result) (object_is _ _ _ k.read_object-read.ensures.0)
     (subst (λ (x : Bool). StepsBy l.chart k.convert_object-s.new.chart l.i a.g f l.w k.read_object-read.result.object l.rest x k.convert_object-s.result) e k.convert_object-s.ensures)
 
 -- the facts that the object met are the song's
@@ -83,7 +84,7 @@ facts_are : (k : After-convert_object-s)
 facts_are k =
     let s = k in
     let f = k.in_force_at-c in
-    facts_of_law s.args.points.now s.args.g f.result _ _ (subst (λ (o : Object). InForceAt s.args.points.now s.args.g o.start f.result) (object-is k.before.before.before.before.before.before) f.ensures.1)
+    facts_of_law s.args.points.now s.args.g f.result _ _ (subst (λ (o : Object). InForceAt s.args.points.now s.args.g o.start f.result) (object_is _ _ _ k.read_object-read.ensures.0) f.ensures.1)
 
 pub returns-then-s : goal.returns-then-s
 returns-then-s c =
@@ -104,7 +105,7 @@ loop-i-preserved c =
     let r = k in
     let f = k.in_force_at-c in (
       at_next a.points.now a.part.now a.chart.now a.g a.at a.count a.d l.chart l.w l.here l.rest l.i (omega arith) l.invariant.0
-          f.result (facts_are (goal.at.loop-i-preserved c).After-convert_object-s) k.convert_object-s.new.chart k.convert_object-s.result.walk r.read_object-read.result.next k.convert_object-s.result.draws l.invariant.2 (stepped (goal.at.loop-i-preserved c).After-convert_object-s _ c.if-s.false) (next-is (goal.at.loop-i-preserved c).After-read_object-read) r.read_object-read.ensures.1,
+          f.result (facts_are (goal.at.loop-i-preserved c).After-convert_object-s) k.convert_object-s.new.chart k.convert_object-s.result.walk r.read_object-read.result.next k.convert_object-s.result.draws l.invariant.2 (stepped (goal.at.loop-i-preserved c).After-convert_object-s _ c.if-s.false) (next_is _ _ _ c.read_object-read.ensures.0) r.read_object-read.ensures.1,
       f.ensures.0,
       k.convert_object-s.auto.chart ∙ l.invariant.2,
       k.convert_object-s.auto.words ∙ l.invariant.3,
