@@ -1,0 +1,95 @@
+-- `convert::convert_song` meets its contract: a job is how its walk ends. Assumes nothing.
+use mathlib.Core.Path.{◌≡◌, ap, ◌∙◌, subst}
+use Prim.Native.Nat.{◌-◌}
+use native.Mathlib.Omega.{arith}
+use lib.ListN.{length}
+use Rattle.random.specs.declared.Draws.{Draws}
+use Rattle.random.specs.declared.Random.{Random}
+use Rattle.random.specs.Generator.{seeded}
+use Rattle.random.specs.Play.{refused, tallied}
+use Rattle.record.specs.Record.{song_of}
+use Rattle.mania.specs.Convert.{seed}
+use Rattle.mania.specs.Walked.{stop}
+use Rattle.walk.specs.declared.Song.{Song}
+use Rattle.walk.specs.declared.WalkEnd.{WalkEnd}
+use Rattle.walk.specs.Steps.{Written, Ends}
+use Rattle.convert.specs.Ends.{song_rule}
+use Rattle.convert.proofs.Songs.{settings_accepted, deck}
+use Rattle.convert.proofs.Jobs.{only_length, short, stopped_job, found_left, refused_left, made_holds, made_job}
+use Rattle.convert.proofs.convert_song.Goals as goal
+use Rattle.convert.proofs.convert_song.Goals.{After-from_seed-random, After-walk_part, In-Made, In-Refused}
+
+pub returns-then-chart-lt8 : goal.returns-then-chart-lt8
+returns-then-chart-lt8 c =
+    let s = c in
+    c.refused.ensures ∙ short s.args.bytes.now s.args.chart.now s.args.allowance s.requires.parsed c.if-chart-lt8.true
+
+pub seed-requires : goal.seed-requires
+seed-requires c = settings_accepted c.args.bytes.now c.args.m c.requires
+
+-- the walk starts at the seed's state
+begins : (c : After-from_seed-random)
+    → ◌≡◌ {A = Draws} (tallied c.args.allowance 0 c.from_seed-random.result)
+    (tallied c.args.allowance 0 (seeded (seed (song_of c.args.bytes.now).settings)))
+begins c =
+    let s = c in
+    ap (λ (r : Random). tallied s.args.allowance 0 (r)) (c.from_seed-random.ensures ∙ ap seeded (c.seed.ensures ∙ ap seed s.requires.settings))
+
+-- how the walk ended
+ended : (c : After-walk_part)
+    → Ends (song_rule c.args.bytes.now (length c.args.chart.now) (tallied c.args.allowance 0 (seeded (seed (song_of c.args.bytes.now).settings))))
+    c.args.chart.now c.walk_part.new.chart c.walk_part.result
+ended c =
+    let a = c.args in
+    subst (λ (d : Draws). Ends (song_rule a.bytes.now (length a.chart.now) d) a.chart.now c.walk_part.new.chart c.walk_part.result) (begins c.before.before) c.walk_part.ensures
+
+made : (c : In-Made)
+    → Written (song_rule c.args.bytes.now (length c.args.chart.now) (tallied c.args.allowance 0 (seeded (seed (song_of c.args.bytes.now).settings))))
+    c.args.chart.now c.walk_part.new.chart c.in-Made.notes c.in-Made.e
+made c =
+    let s = c in
+    subst (λ (r : WalkEnd). Ends (song_rule s.args.bytes.now (length s.args.chart.now) (tallied s.args.allowance 0 (seeded (seed (song_of s.args.bytes.now).settings))))
+    s.args.chart.now c.walk_part.new.chart r) c.in-Made.is (ended c.before.before.before.before)
+
+stops : (c : In-Refused)
+    → song_rule c.args.bytes.now (length c.args.chart.now) (tallied c.args.allowance 0 (seeded (seed (song_of c.args.bytes.now).settings)))
+    ≡ refused (stop c.in-Refused.i c.in-Refused.n) c.in-Refused.e
+stops c =
+    let s = c in
+    subst (λ (r : WalkEnd). Ends (song_rule s.args.bytes.now (length s.args.chart.now) (tallied s.args.allowance 0 (seeded (seed (song_of s.args.bytes.now).settings))))
+    s.args.chart.now c.walk_part.new.chart r) c.in-Refused.is (ended c.before.before.before.before)
+
+pub overflow_sub-allowance : goal.overflow_sub-allowance
+overflow_sub-allowance c =
+    let k = c in
+    let s = k in
+    found_left s.args.bytes.now s.args.chart.now s.args.allowance s.requires.parsed (length s.args.chart.now) (made (goal.at.overflow_sub-allowance c).In-Made).nss k.in-Made.e (made (goal.at.overflow_sub-allowance c).In-Made).says
+
+pub finish-length-requires : goal.finish-length-requires
+finish-length-requires c =
+    let k = c in
+    let s = k in
+    let columns = ap (λ (g : Song). g.columns) k.song_of-g.ensures in
+    (omega (arith, columns, (deck s.args.bytes.now s.args.m s.requires).1), (omega (arith, (made (goal.at.finish-length-requires c).In-Made).room), made_holds s.args.bytes.now s.args.chart.now s.args.allowance s.requires.parsed (omega (arith, k.if-chart-lt8.false)) k.walk_part.new.chart k.in-Made.notes k.in-Made.e (made (goal.at.finish-length-requires c).In-Made)))
+
+pub overflow_sub-allowance-in-Refused : goal.overflow_sub-allowance-in-Refused
+overflow_sub-allowance-in-Refused c =
+    let k = c in
+    let s = k in
+    refused_left s.args.bytes.now s.args.chart.now s.args.allowance s.requires.parsed (length s.args.chart.now) _ k.in-Refused.e (stops (goal.at.overflow_sub-allowance-in-Refused c).In-Refused)
+
+pub returns-in-Made : goal.returns-in-Made
+returns-in-Made c =
+    let f = c.finish-length in
+    let k = c in
+    let s = k in
+    made_job s.args.bytes.now s.args.chart.now s.args.allowance s.requires.parsed (omega (arith, k.if-chart-lt8.false)) k.walk_part.new.chart k.in-Made.notes k.in-Made.e
+    (made (goal.at.returns-in-Made c).In-Made) k.song_of-g.result.columns f.result f.new.chart (ap (λ (g : Song). g.columns) k.song_of-g.ensures) f.ensures.value f.ensures.chart_after
+
+pub returns-in-Refused : goal.returns-in-Refused
+returns-in-Refused c =
+    let k = c in
+    let s = k in
+    c.refused-in-Refused.ensures
+    ∙ only_length k.in-Refused.n k.in-Refused.i (s.args.allowance - k.in-Refused.e.tally.left) k.walk_part.new.chart s.args.chart.now (omega arith)
+    ∙ stopped_job s.args.bytes.now s.args.chart.now s.args.allowance s.requires.parsed (omega (arith, k.if-chart-lt8.false)) k.in-Refused.n k.in-Refused.i k.in-Refused.e (stops (goal.at.returns-in-Refused c).In-Refused)
