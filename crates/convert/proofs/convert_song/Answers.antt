@@ -1,8 +1,10 @@
 -- `convert::convert_song` meets its contract: a job is how its walk ends. Assumes nothing.
 use mathlib.Core.Path.{◌≡◌, ap, ◌∙◌, subst}
-use Prim.Native.Nat.{◌-◌}
+use Prim.Native.Nat.{ℕ, ◌-◌}
+use mathlib.Core.List.{List}
 use native.Mathlib.Omega.{arith}
 use lib.ListN.{length}
+use Rattle.model.specs.declared.Settings.{Settings}
 use Rattle.random.specs.declared.Draws.{Draws}
 use Rattle.random.specs.declared.Random.{Random}
 use Rattle.random.specs.Generator.{seeded}
@@ -17,7 +19,7 @@ use Rattle.convert.specs.Ends.{song_rule}
 use Rattle.convert.proofs.Songs.{settings_accepted, deck}
 use Rattle.convert.proofs.Jobs.{only_length, short, stopped_job, found_left, refused_left, made_holds, made_job}
 use Rattle.convert.proofs.convert_song.Goals as goal
-use Rattle.convert.proofs.convert_song.Goals.{After-from_seed-random, After-walk_part, In-Made, In-Refused}
+use Rattle.convert.proofs.convert_song.Goals.{In-Made, In-Refused}
 
 pub returns-then-chart-lt8 : goal.returns-then-chart-lt8
 returns-then-chart-lt8 c =
@@ -28,20 +30,13 @@ pub seed-requires : goal.seed-requires
 seed-requires c = settings_accepted c.args.bytes.now c.args.m c.requires
 
 -- the walk starts at the seed's state
-begins : (c : After-from_seed-random)
-    → ◌≡◌ {A = Draws} (tallied c.args.allowance 0 c.from_seed-random.result)
-    (tallied c.args.allowance 0 (seeded (seed (song_of c.args.bytes.now).settings)))
-begins c =
-    let s = c in
-    ap (λ (r : Random). tallied s.args.allowance 0 (r)) (c.from_seed-random.ensures ∙ ap seeded (c.seed.ensures ∙ ap seed s.requires.settings))
+begins : (bytes : List ℕ) (allowance : ℕ) (settings : Settings) (n : ℕ) (r : Random) → r ≡ seeded n → n ≡ seed settings → settings ≡ (song_of bytes).settings
+    → ◌≡◌ {A = Draws} (tallied allowance 0 r) (tallied allowance 0 (seeded (seed (song_of bytes).settings)))
+begins bytes allowance settings n r e f g = ap (λ (r : Random). tallied allowance 0 r) (e ∙ ap seeded (f ∙ ap seed g))
 
 -- how the walk ended
-ended : (c : After-walk_part)
-    → Ends (song_rule c.args.bytes.now (length c.args.chart.now) (tallied c.args.allowance 0 (seeded (seed (song_of c.args.bytes.now).settings))))
-    c.args.chart.now c.walk_part.new.chart c.walk_part.result
-ended c =
-    let a = c.args in
-    subst (λ (d : Draws). Ends (song_rule a.bytes.now (length a.chart.now) d) a.chart.now c.walk_part.new.chart c.walk_part.result) (begins c.before.before) c.walk_part.ensures
+ended : (bytes chart new : List ℕ) (d d' : Draws) (end : WalkEnd) → d ≡ d' → Ends (song_rule bytes (length chart) d) chart new end → Ends (song_rule bytes (length chart) d') chart new end
+ended bytes chart new d d' end e h = subst (λ (d : Draws). Ends (song_rule bytes (length chart) d) chart new end) e h
 
 made : (c : In-Made)
     → Written (song_rule c.args.bytes.now (length c.args.chart.now) (tallied c.args.allowance 0 (seeded (seed (song_of c.args.bytes.now).settings))))
@@ -49,7 +44,7 @@ made : (c : In-Made)
 made c =
     let s = c in
     subst (λ (r : WalkEnd). Ends (song_rule s.args.bytes.now (length s.args.chart.now) (tallied s.args.allowance 0 (seeded (seed (song_of s.args.bytes.now).settings))))
-    s.args.chart.now c.walk_part.new.chart r) c.in-Made.is (ended c.before.before.before.before)
+    s.args.chart.now c.walk_part.new.chart r) c.in-Made.is (ended _ _ _ _ _ _ (begins s.args.bytes.now _ _ _ _ c.from_seed-random.ensures c.seed.ensures s.requires.settings) c.walk_part.ensures)
 
 stops : (c : In-Refused)
     → song_rule c.args.bytes.now (length c.args.chart.now) (tallied c.args.allowance 0 (seeded (seed (song_of c.args.bytes.now).settings)))
@@ -57,7 +52,7 @@ stops : (c : In-Refused)
 stops c =
     let s = c in
     subst (λ (r : WalkEnd). Ends (song_rule s.args.bytes.now (length s.args.chart.now) (tallied s.args.allowance 0 (seeded (seed (song_of s.args.bytes.now).settings))))
-    s.args.chart.now c.walk_part.new.chart r) c.in-Refused.is (ended c.before.before.before.before)
+    s.args.chart.now c.walk_part.new.chart r) c.in-Refused.is (ended _ _ _ _ _ _ (begins s.args.bytes.now _ _ _ _ c.from_seed-random.ensures c.seed.ensures s.requires.settings) c.walk_part.ensures)
 
 pub overflow_sub-allowance : goal.overflow_sub-allowance
 overflow_sub-allowance c =
