@@ -1,13 +1,16 @@
 // Reads an input and prints what `job_text` says of its sheet. Contracts cannot speak of what is read or written, so `main` does nothing else.
+// A read or a write that fails ends it with an error.
 #![tactic(auto)]
 
+use input::read_full;
 use job_text::limits::{INPUT_BYTES, SHEET_BYTES};
 use job_text::sheets::put_sheet_printed;
+use std::io;
 
-fn main() {
+fn main(rt: HostRuntime) -> io::Result<()> {
     let mut input = [0u8; INPUT_BYTES];
     let mut text = [0u8; SHEET_BYTES];
-    let size = io::read_full(libc::STDIN_FILENO, &mut input);
+    let size = read_full(&mut rt.stdin(), &mut input)?;
     let length = put_sheet_printed(&input[..size], &mut text);
-    io::write_all(libc::STDOUT_FILENO, &text[..length]);
+    rt.write_all(&text[..length])
 }

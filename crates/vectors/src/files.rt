@@ -1,16 +1,18 @@
 // Files of recorded answers.
-ghost use Rattle.io.specs.Counts.{IsPrefixLen};
+ghost use Rattle.std.specs.Io.{ReadsAtMost};
 
-// Reads a file to the start of a buffer, and gives how many bytes it read: none where there is no such file.
-pub fn load(name: &[u8], bytes: &mut [u8]) -> usize
-    ensures { IsPrefixLen result bytes.new }
+use std::rt::Files;
+use std::{fs, io};
+
+// Reads a file to the start of a buffer, and gives how many bytes it read: none where there is no such file, which it says.
+pub fn load(rt: &(impl Files + Eprint), name: &str, bytes: &mut [u8]) -> io::Result<usize>
+    ensures { ReadsAtMost result bytes.new }
 {
-    let file = os::open_read(name);
-    if file < 0 {
-        os::fail(name);
-        return 0;
+    match fs::open(rt, name) {
+        Ok(mut file) => input::read_full(&mut file, bytes),
+        Err(error) => {
+            eprintln!(rt; "{name}: {error}")?;
+            Ok(0)
+        }
     }
-    let size = io::read_full(file, bytes);
-    libc::close(file);
-    size
 }

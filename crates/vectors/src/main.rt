@@ -1,5 +1,5 @@
 // Replays the jobs of data/jobs.bin and the single objects of data/objects.bin, which have the Rust's answers beside them
-// (oracle/compare/src/bin), and prints how many differ, and how often each answer was due.
+// (oracle/compare/src/bin), and prints how many differ, and how often each answer was due. A read or a write that fails ends it with an error.
 #![tactic(auto)]
 
 mod files;
@@ -14,6 +14,7 @@ ghost use Rattle.vectors.specs.Whole.{Whole};
 
 use files::load;
 use list::{Entry, entry_at};
+use std::io;
 
 #[derive(Clone, Copy)]
 enum Kind {
@@ -96,52 +97,55 @@ fn replay(list: &[u8], kind: Kind, buffer: &mut [u8]) -> Counts {
 }
 
 // Prints a word and a number.
-fn print(word: &[u8], n: u32) {
-    io::write_all(libc::STDOUT_FILENO, word);
-    io::print_decimal(libc::STDOUT_FILENO, n as u64);
+fn print(rt: &impl Print, word: &str, n: u32) -> io::Result<()> {
+    print!(rt; "{word}{n}")
 }
 
-fn print_refusals(number: u32, count: u32) {
+fn print_refusals(rt: &impl Print, number: u32, count: u32) -> io::Result<()> {
     if count > 0 {
-        print(b"refused ", number);
-        print(b": ", count);
-        io::write_all(libc::STDOUT_FILENO, b"\n");
+        print(rt, "refused ", number)?;
+        print(rt, ": ", count)?;
+        println!(rt)?;
     }
+    Ok(())
 }
 
-fn print_all_refusals(due: [u32; 32]) {
+fn print_all_refusals(rt: &impl Print, due: [u32; 32]) -> io::Result<()> {
     let mut i: u32 = 1;
     while i < 32 {
-        print_refusals(i, due[i as usize]);
+        print_refusals(rt, i, due[i as usize])?;
         i += 1;
     }
+    Ok(())
 }
 
 // Prints the counts of a list of so-named entries; `accepted` is the word for an answer that is no refusal.
-fn report(entries: &[u8], accepted: &[u8], counts: Counts) {
-    print(b"", counts.entries);
-    io::write_all(libc::STDOUT_FILENO, entries);
-    print(b", ", counts.differ);
-    io::write_all(libc::STDOUT_FILENO, b" differ\n");
+fn report(rt: &impl Print, entries: &str, accepted: &str, counts: Counts) -> io::Result<()> {
+    print(rt, "", counts.entries)?;
+    print!(rt; "{entries}")?;
+    print(rt, ", ", counts.differ)?;
+    println!(rt; " differ")?;
     let due = counts.due;
-    print(accepted, due[0]);
-    io::write_all(libc::STDOUT_FILENO, b"\n");
-    print_all_refusals(due);
+    print(rt, accepted, due[0])?;
+    println!(rt)?;
+    print_all_refusals(rt, due)
 }
 
-fn main() {
+fn main(rt: HostRuntime) -> io::Result<()> {
     let mut list = [0u8; 327680];
     let mut buffer = [0u8; 65536];
-    let size = load(b"jobs.bin", &mut list);
+    let size = load(&rt, "jobs.bin", &mut list)?;
     report(
-        b" jobs",
-        b"charts: ",
+        &rt,
+        " jobs",
+        "charts: ",
         replay(&list[..size], Kind::Jobs, &mut buffer),
-    );
-    let size = load(b"objects.bin", &mut list);
+    )?;
+    let size = load(&rt, "objects.bin", &mut list)?;
     report(
-        b" objects",
-        b"made: ",
+        &rt,
+        " objects",
+        "made: ",
         replay(&list[..size], Kind::Objects, &mut buffer),
-    );
+    )
 }
