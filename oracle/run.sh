@@ -2,7 +2,7 @@
 # The oracle's tests, and a short comparison of the proved library with the unchanged Rust: seconds, on the same inputs each time.
 set -e
 cd "$(dirname "$0")/.."
-rt staticlib sumopine
+(cd crates/sumopine && rt lib)
 cd oracle
 cargo build --release --offline --quiet --workspace
 cargo test --release --offline --quiet

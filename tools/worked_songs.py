@@ -53,7 +53,7 @@ def put_object(bits, text):
 
 def record(song):
     bits = Bits()
-    lists = [entries(song, name) for name in ("breaks", "timingPoints", "difficultyPoints", "effectPoints", "objects")]
+    lists = [entries(song, name) for name in ("breaks", "timing_points", "difficulty_points", "effect_points", "objects")]
     breaks, timing, difficulty, effect, objects = lists
     bits.put(4, 1)
     bits.put(4, int(re.search(r"keys = (\d+)", song).group(1)))

@@ -1,10 +1,10 @@
-//! Links the proved library. `SUMOPINE_LIB` names the folder of libsumopine.a; without it, it is target/staticlib of the repository.
+//! Links the proved library. `SUMOPINE_LIB` names the folder of libsumopine.a; without it, it is crates/sumopine/out of the repository.
 
 use std::path::{Path, PathBuf};
 
 fn main() {
     let folder = std::env::var_os("SUMOPINE_LIB").map_or_else(
-        || Path::new(env!("CARGO_MANIFEST_DIR")).join("../../target/staticlib"),
+        || Path::new(env!("CARGO_MANIFEST_DIR")).join("../../crates/sumopine/out"),
         PathBuf::from,
     );
     println!("cargo:rerun-if-env-changed=SUMOPINE_LIB");
