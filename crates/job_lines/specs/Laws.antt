@@ -17,6 +17,7 @@ use Rattle.chart.specs.declared.Note.{Note}
 use Rattle.chart.specs.Time.{time}
 use Rattle.chart.specs.Tests.{both, passes}
 use Rattle.chart.specs.Bytes.{splice}
+use Rattle.chart.specs.Order.{rank}
 use Rattle.chart.specs.Chart.{Score, decode, draws_of, ok_chart, ok_head, ok_rows, ok_note, ok_notes, head_tests, version_of, columns_of, count_of, score_of}
 use Rattle.chart.specs.Laws.Reader.{read_score, notes_ok, notes_room}
 use Rattle.text.specs.Laws.{decimal_most}
@@ -69,7 +70,7 @@ lines_most columns last [] low few ok whole = omega arith
 lines_most columns last (n ∷ ns) low few ok whole =
     let here = both (ok_note columns last n) _ ok in
     let own = both (is_whole n) (all_whole ns) whole in
-    omega (arith, length-append (line_text (line_of columns n)) (chart_lines columns ns), line_most columns last n low few here.0 own.0, lines_most columns _ ns low few here.1 own.1)
+    omega (arith, length-append (line_text (line_of columns n)) (chart_lines columns ns), line_most columns last n low few here.0 own.0, lines_most columns (rank n) ns low few here.1 own.1)
 
 chart_most : (s : List ℕ) (c : Score) → decode s ≡ some c → all_whole c.notes ≡ true → length (chart_lines c.columns c.notes) ≤ 4 * length s
 unfolding ok_chart ok_head head_tests score_of
