@@ -50,7 +50,7 @@ fn text_size(chart: &[u8], columns: u8, count: u32) -> Size
 
 fn put_lines(chart: &[u8], columns: u8, count: u32, s: &mut [u8])
     requires notes { Notes columns count (notes_in chart.now) }
-    requires chart_value { (all_whole (notes_in chart.now) ≡ true) × (length (chart_lines columns (notes_in chart.now)) ≤ length s.old) }
+    requires room { (all_whole (notes_in chart.now) ≡ true) × (length (chart_lines columns (notes_in chart.now)) ≤ length s.old) }
     ensures { s.new ≡ splice s.old 0 (chart_lines columns (notes_in chart.now)) }
 {
     let mut at = 0;

@@ -64,8 +64,8 @@ fn check_lines(s: &[u8], columns: u8) -> Checked
 
 // Stores the notes of lines that were checked behind a header.
 fn put_notes(s: &[u8], columns: u8, chart: &mut [u8])
-    requires columns { Columns columns × (notes_on (length s.now) columns s.now ≡ some (lines_notes columns s.now)) }
-    requires s_in_bounds { chart_size_in One (length (lines_notes columns s.now)) ≤ length chart.old }
+    requires lines { Columns columns × (notes_on (length s.now) columns s.now ≡ some (lines_notes columns s.now)) }
+    requires room { chart_size_in One (length (lines_notes columns s.now)) ≤ length chart.old }
     ensures { chart.new ≡ splice chart.old 8 (body One (lines_notes columns s.now)) }
 {
     let mut at = 0;

@@ -31,9 +31,9 @@ put_line-at-requires c =
       record {
         some_columns = s.requires.notes.some_columns;
         stands = rw note (standing_at s.args.columns 0 ns s.requires.notes.ok l.i blank below);
-        whole = rw note (whole_at ns s.requires.chart_value.0 l.i blank below);
+        whole = rw note (whole_at ns s.requires.room.0 l.i blank below);
       },
-      rw note (omega (arith, l.invariant.1.0, l.invariant.1.1.next, s.requires.chart_value.1, lines_split s.args.columns ns l.i, lines_next s.args.columns ns l.i below)),
+      rw note (omega (arith, l.invariant.1.0, l.invariant.1.1.next, s.requires.room.1, lines_split s.args.columns ns l.i, lines_next s.args.columns ns l.i below)),
     )
 
 pub loop-i-preserved : goal.loop-i-preserved
@@ -45,7 +45,7 @@ loop-i-preserved c =
     let ns = notes_in s.args.chart.now in
     let below : l.i < length ns = omega (arith, s.requires.notes.size) in
     let fits : l.at + length (line_text (line_of s.args.columns (get_or ns l.i blank))) ≤ length s.args.s.now =
-    omega (arith, l.invariant.1.1.next, s.requires.chart_value.1, lines_split s.args.columns ns l.i, lines_next s.args.columns ns l.i below) in
+    omega (arith, l.invariant.1.1.next, s.requires.room.1, lines_split s.args.columns ns l.i, lines_next s.args.columns ns l.i below) in
     let line = wrote_next (line_text (line_of s.args.columns (get_or ns l.i blank))) l.invariant.1.1 (put.put_line-at.ensures.s_after ∙ rw note) (put.put_line-at.ensures.value ∙ rw note) (rw (put.put_line-at.ensures.value, note) fits) in
     (omega arith, (put.put_line-at.auto.s ∙ l.invariant.1.0, rw (lines_more s.args.columns ns l.i below) line))
 

@@ -17,7 +17,7 @@ put_lines-requires c =
     let s = c in
     let k = c in
     let known = size_some _ (notes_in s.args.chart.now) s.args.text.now k.in-Bytes.size (sym (ap size_told k.in-Bytes.is) ∙ k.text_size.ensures) in
-    record { notes = s.requires; chart_value = (known.0, omega (arith, known.1)) }
+    record { notes = s.requires; room = (known.0, omega (arith, known.1)) }
 
 pub returns-else-size-text : goal.returns-else-size-text
 returns-else-size-text c =

@@ -19,10 +19,10 @@ use Rattle.hit_object_reader.proofs.put_notes.Goals as goal
 pub loop-at-init : goal.loop-at-init
 loop-at-init c =
     let b = c in
-    (omega arith, (omega arith, (refl, (rw sub-zero b.requires.columns.1, none_stored b.args.chart.now (omega (arith, b.requires.s_in_bounds))))))
+    (omega arith, (omega arith, (refl, (rw sub-zero b.requires.lines.1, none_stored b.args.chart.now (omega (arith, b.requires.room))))))
 
 pub row_at-requires : goal.row_at-requires
-row_at-requires c = (c.requires.columns.0, omega arith)
+row_at-requires c = (c.requires.lines.0, omega arith)
 
 pub shape_of-chart-in_default : goal.shape_of-chart-in_default
 shape_of-chart-in_default c = c.loop-at.invariant.1.1.0
@@ -53,7 +53,7 @@ overflow_mul-i c =
     let known = got (row_told s) (row_in (length s) l.at b.args.columns) (R.Note g.note g.next) (note_on b.args.columns (drop l.at s)) g.is m.ensures.result_value m.ensures.row_in in
     let rest = notes_on (length s - (l.i + 1)) b.args.columns (drop g.next s) in
     let next = next_note ns l.i g.note rest (sym (text_next b.args.columns s (length s - (l.i + 1)) l.at below g.note (drop g.next s) known.0) ∙ left) in
-    omega (arith, next.0, b.requires.s_in_bounds)
+    omega (arith, next.0, b.requires.room)
 
 pub overflow_add-i : goal.overflow_add-i
 overflow_add-i c =
@@ -69,7 +69,7 @@ overflow_add-i c =
     let known = got (row_told s) (row_in (length s) l.at b.args.columns) (R.Note g.note g.next) (note_on b.args.columns (drop l.at s)) g.is m.ensures.result_value m.ensures.row_in in
     let rest = notes_on (length s - (l.i + 1)) b.args.columns (drop g.next s) in
     let next = next_note ns l.i g.note rest (sym (text_next b.args.columns s (length s - (l.i + 1)) l.at below g.note (drop g.next s) known.0) ∙ left) in
-    omega (arith, next.0, b.requires.s_in_bounds)
+    omega (arith, next.0, b.requires.room)
 
 pub put_old_note-requires : goal.put_old_note-requires
 put_old_note-requires c =
@@ -85,7 +85,7 @@ put_old_note-requires c =
     let known = got (row_told s) (row_in (length s) l.at b.args.columns) (R.Note g.note g.next) (note_on b.args.columns (drop l.at s)) g.is m.ensures.result_value m.ensures.row_in in
     let rest = notes_on (length s - (l.i + 1)) b.args.columns (drop g.next s) in
     let next = next_note ns l.i g.note rest (sym (text_next b.args.columns s (length s - (l.i + 1)) l.at below g.note (drop g.next s) known.0) ∙ left) in
-    (ap index known.1.0.1, omega (arith, next.0, b.requires.s_in_bounds, l.invariant.1.1.0))
+    (ap index known.1.0.1, omega (arith, next.0, b.requires.room, l.invariant.1.1.0))
 
 pub loop-at-smaller : goal.loop-at-smaller
 loop-at-smaller c =
@@ -125,7 +125,7 @@ loop-at-preserved c =
           put.auto.s ∙ l.invariant.1.1.0,
           (
             next.1.1,
-            put.ensures ∙ rw (l.invariant.1.1.1.1, next.1.0) (stored_note b.args.chart.now ns l.i next.0 b.requires.s_in_bounds),
+            put.ensures ∙ rw (l.invariant.1.1.1.1, next.1.0) (stored_note b.args.chart.now ns l.i next.0 b.requires.room),
           ),
         ),
       ),

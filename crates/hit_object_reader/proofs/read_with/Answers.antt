@@ -26,7 +26,7 @@ put_notes-requires c =
     let ns = lines_notes b.args.columns s in
     let g = c.in-Notes in
     let w = counted b.args.columns b.requires s g.count (sym (ap checked_told g.is) ∙ c.check_lines.ensures) in
-    record { columns = (b.requires, w.0); s_in_bounds = omega (arith, w.1.1) }
+    record { lines = (b.requires, w.0); room = omega (arith, w.1.1) }
 
 pub returns-else-size-chart : goal.returns-else-size-chart
 returns-else-size-chart c =
