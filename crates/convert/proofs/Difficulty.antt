@@ -6,7 +6,7 @@ use lib.ListN.{length}
 use Rattle.model.specs.Limits.{most_entries}
 use Rattle.model.specs.Song.{Song}
 use Rattle.record.specs.Record.{parse, accepted, counts_in, summary_of, checked_of}
-use Rattle.record.specs.Laws.Known.{known}
+use Rattle.record.proofs.Laws.Known.{known}
 use Rattle.settings.specs.Difficulty.{difficulty_allowed}
 use Rattle.convert.specs.Difficulty.{Allowed}
 use Rattle.convert.proofs.Songs.{accepted_settings}

@@ -35,7 +35,7 @@ use Rattle.model.specs.declared.TimingPoint.{TimingPoint}
 use Rattle.model.specs.declared.DifficultyPoint.{DifficultyPoint}
 use Rattle.record.specs.Record.{accepted, parse}
 use Rattle.record.specs.Fit.{FitSong, FitObject, FitKind, FitDistance, FitNode, FitTiming, FitDifficulty}
-use Rattle.record.specs.Laws.Ranges.{fit_song}
+use Rattle.record.proofs.Laws.Ranges.{fit_song}
 use Rattle.mania.specs.declared.Facts.{Facts}
 use Rattle.mania.specs.declared.PrevValues.{PrevValues}
 use Rattle.mania.specs.Steps.{double, double#}

@@ -21,7 +21,7 @@ use Rattle.record.specs.Section.{breaks}
 use Rattle.record.specs.Lookup.{Rising}
 use Rattle.record.specs.Object.{zero_start, objects}
 use Rattle.record.specs.Laws.Known.{Known, PointsAt}
-use Rattle.record.specs.Laws.Ranges.{fit_song}
+use Rattle.record.proofs.Laws.Ranges.{fit_song}
 use Rattle.mania.specs.Steps.{double}
 use Rattle.mania.specs.Convert.{SongFacts, columns_by, target_columns, keys_or, columns_of, difficulty_of, song_facts, beginning, walk}
 use Rattle.mania.specs.PatternGenerator.{difficulty_by, conversion_difficulty}

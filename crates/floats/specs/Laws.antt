@@ -8,6 +8,4 @@ pub mod Spans
 pub mod Order
 pub mod Integers
 pub mod Times
-pub mod Roots
-pub mod Squares
 pub mod Monotone

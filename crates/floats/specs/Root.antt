@@ -36,7 +36,7 @@ root f nan = nan
 root f (inf s) = cond s nan (inf s)
 root f (fin s m e) = cond (s && nat_lt 0 m) nan (nearest_root f s (m * up e * 2 ^ low f / down e * 2 ^ low f))
 
--- ---- what the root is, said without a way to find it: `root_nearest` of Laws/Roots proves it
+-- ---- what the root is, said without a way to find it: `root_nearest` of proofs/Laws/Roots proves it
 
 -- b units are a value of the format, however large: its digits, at most `prec` of them, and zeros after them
 pub record Value (f : Format) (b : ℕ) : Type 0 where

@@ -6,7 +6,7 @@ use Rattle.std.specs.Float.Ieee.{fits, lt, of_bits, mul, add, round}
 use Rattle.std.specs.Float.Ieee.Exact.{HasValue}
 use Rattle.std.specs.Float.Ieee.Fits.{add-fits}
 use Rattle.floats.specs.Root.{root}
-use Rattle.floats.specs.Laws.Squares.{clear, clear_square, clear_add, root_under_bits}
+use Rattle.floats.proofs.Laws.Squares.{clear, clear_square, clear_add, root_under_bits}
 use Rattle.mania.specs.Steps.{single}
 
 -- 20 in units of the smallest f32

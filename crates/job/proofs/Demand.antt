@@ -9,7 +9,7 @@ use Rattle.rules.specs.Refusal.{spent_number}
 use Rattle.rules.specs.Rule.{Outcome, ended, spent, run, taken}
 use Rattle.rules.specs.Rule as Rule
 use Rattle.rules.specs.Ledger.{sum, largest, longest}
-use Rattle.rules.specs.Laws.Ledger.{all_counted}
+use Rattle.rules.proofs.Laws.Ledger.{all_counted}
 use Rattle.random.specs.Generator.{values, seeded, steps}
 use Rattle.random.specs.declared.Random.{Random}
 use Rattle.random.specs.Play.{tallied}

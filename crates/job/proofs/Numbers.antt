@@ -18,7 +18,7 @@ use Rattle.record.specs.Section.{section_refusal}
 use Rattle.record.specs.Object.{objects_refusal}
 use Rattle.record.specs.Record.{places_of, lists_refusal, fill_refusal, record_refusal, record_end, song_of, accepted, refused, parsed_by, parse}
 use Rattle.record.specs.Fields.{section_fields, objects_fields}
-use Rattle.record.specs.Laws.Ranges.{fit_song}
+use Rattle.record.proofs.Laws.Ranges.{fit_song}
 use Rattle.record.specs.Laws.Refusals.{Gives, header_gives, section_gives, objects_gives, section_is, objects_are}
 use Rattle.model.specs.Song.{Song}
 

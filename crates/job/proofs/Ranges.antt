@@ -22,7 +22,7 @@ use Rattle.model.specs.Song.{Song}
 use Rattle.record.specs.Record.{parse, accepted}
 use Rattle.record.specs.Fit.{Bounded}
 use Rattle.record.specs.Fit as Fit
-use Rattle.record.specs.Laws.Ranges as Read
+use Rattle.record.proofs.Laws.Ranges as Read
 use Rattle.rules.specs.Laws.Each.{each_map}
 use Rattle.mania.specs.Steps.{double}
 use Rattle.mania.specs.Range.{FewRepeats, InRange}

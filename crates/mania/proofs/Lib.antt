@@ -4,7 +4,8 @@
 -- `Refuses` the other way round. `Singles`: the claims of the single-object entry; `OneRule`: a walk's step is one. `CircleDeck`, `SliderDeck`: what the
 -- next object meets; `Lists`: that this is a pattern with as many notes as its mask has ones. `Counts`, `MostNotes`: how many notes an object makes. `Limits`: how
 -- many draws a search may make, `Own`: that it tells how many it made. `Ones`, `Frees`, `Masks`: the columns of a mask. `Back`: columns and positions.
--- `Examples`: computed on the definition.
+-- `Examples`: computed on the definition. `Laws`: what code of other crates needs too.
+pub mod Laws
 pub mod Makes
 pub mod Meets
 pub mod Masks

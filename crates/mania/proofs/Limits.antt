@@ -12,7 +12,7 @@ use Rattle.rules.specs.Rule.{if◌then◌else◌, give, refuse, ◌>>=◌, refus
 use Rattle.rules.specs.Refusal.{Refusal, late_end, no_column, off_deck, too_short, long_search, ObjectRule}
 use Rattle.rules.specs.Ledger.{largest}
 use Rattle.rules.specs.Limited.{Limited, last_or}
-use Rattle.rules.specs.Laws.Limited.{bind_limited, label_limited, few, refused_full}
+use Rattle.rules.proofs.Laws.Limited.{bind_limited, label_limited, few, refused_full}
 use Rattle.random.specs.Generator.{values, seeded}
 use Rattle.random.specs.Play.{value}
 use Rattle.model.specs.declared.Kind.{Kind}

@@ -28,7 +28,7 @@ use Rattle.mania.specs.Walked.{Stop, stop, on_walk}
 use Rattle.mania.specs.Single.{made, refusal, Single, entry_refusal, refusing}
 use Rattle.mania.specs.Single as Single
 use Rattle.mania.specs.Laws.Walks.{before, walk_refused, walk_full, walk_made}
-use Rattle.mania.specs.Laws.Singles.{single_refused, single_full, single_made}
+use Rattle.mania.proofs.Laws.Singles.{single_refused, single_full, single_made}
 use Rattle.mania.specs.OneRule.{facts, met, rule, entry, room, here, GoesOn, OneRule}
 use Rattle.mania.proofs.Eleven.{before_none}
 use Rattle.chart.specs.Layout.{note_size, chart_size}

@@ -7,7 +7,7 @@ use mathlib.Core.List.{List, [], ◌∷◌}
 use Rattle.rules.specs.Rule as Rule
 use Rattle.rules.specs.Rule.{if◌then◌else◌, give, refuse, Outcome, ended, refused, spent, after, drawing_until, run}
 use Rattle.rules.specs.Ledger.{Ledger, ledger_until, ledger, sum}
-use Rattle.rules.specs.Laws.Ledger.{all_counted}
+use Rattle.rules.proofs.Laws.Ledger.{all_counted}
 use Rattle.rules.specs.Refusal.{Refusal, ObjectRule, no_column, long_search}
 use Rattle.random.specs.Generator.{between}
 use Rattle.mania.specs.declared.Next.{Next}

@@ -13,7 +13,7 @@ use borrow.Author.Tests.{ltb-true, ltb-false, lt-ltb, eqb-true, eqb-false}
 use Rattle.rules.specs.Rule.{Outcome, ended, spent, run, taken, Done, refuse, give, if◌then◌else◌}
 use Rattle.rules.specs.Rule as Rule
 use Rattle.rules.specs.Ledger.{longest}
-use Rattle.rules.specs.Laws.Limited.{refused_full}
+use Rattle.rules.proofs.Laws.Limited.{refused_full}
 use Rattle.rules.specs.Refusal.{Refusal, late_end, no_column, off_deck, too_short, number, spent_number, ObjectRule, long_search}
 use Rattle.random.specs.Generator.{values, steps}
 use Rattle.random.specs.Play.{Answer, found, refused, on, play, tallied}
@@ -36,7 +36,8 @@ use Rattle.mania.specs.SingleClaims.{under, draws, entry, Gave, MakesNotes, Cond
 use Rattle.model.specs.Limits.{search_limit}
 use Rattle.mania.proofs.Limits.{Long, room_bound}
 use Rattle.mania.proofs.Makes.{ran}
-use Rattle.mania.specs.Laws.Singles.{Fits, pattern_fits_law, by_rule, single_checked, single_refused, single_full}
+use Rattle.mania.specs.Laws.Singles.{Fits, pattern_fits_law}
+use Rattle.mania.proofs.Laws.Singles.{by_rule, single_checked, single_refused, single_full}
 use Rattle.mania.proofs.Meets as Meets
 use Rattle.mania.proofs.Meets.{Meets, refused_meets, ended_meets}
 use Rattle.mania.proofs.Conditions as Object

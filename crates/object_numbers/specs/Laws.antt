@@ -19,7 +19,8 @@ use Rattle.model.specs.declared.Object.{Object}
 use Rattle.mania.specs.declared.Facts.{Facts}
 use Rattle.mania.specs.declared.PrevValues.{PrevValues}
 use Rattle.mania.specs.Laws.Tests.{two, three, four}
-use Rattle.mania.specs.Laws.Singles.{pattern_fits_law, single_checked}
+use Rattle.mania.specs.Laws.Singles.{pattern_fits_law}
+use Rattle.mania.proofs.Laws.Singles.{single_checked}
 use Rattle.mania.specs.Single.{inside, position_fits, pattern_fits, settings_fit, points_fit, distance_fits, node_fits, kind_fits, object_fits, entry_refusal, single_object}
 use Rattle.object_numbers.specs.Single.{largest8, largest16, saturate8, saturate16, is_set, node_of, kind_of, object_of, previous_of}
 

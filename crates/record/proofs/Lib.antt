@@ -1,2 +1,3 @@
--- Worked examples.
+-- What holds of accepted records (`Laws`), and worked examples.
+pub mod Laws
 pub mod Examples

@@ -1,5 +1,5 @@
--- What proofs of this crate and of others cite: `Accepted` and `Ranges` on accepted records, `Refusals` on each number, `Known` on what `check_record`
--- returns, `Parts` and `Objects` for a walk over the objects.
+-- What proofs of this crate and of others cite: `Accepted` on accepted records, `Refusals` on each number, `Known` on what `check_record`
+-- returns, `Parts` and `Objects` for a walk over the objects. More is in proofs/Laws.
 pub mod Row
 pub mod Widths
 pub mod Entries
@@ -8,6 +8,5 @@ pub mod Objects
 pub mod Songs
 pub mod Parts
 pub mod Accepted
-pub mod Ranges
 pub mod Known
 pub mod Refusals

@@ -1,7 +1,2 @@
--- What holds of every rule, for proofs of this crate and of others: `Cut` on lists that begin alike, `Refuses` on what it refuses by,
--- `Ledger` on the values of its searches, `Limited` on their limits. `Each` is on lists.
-pub mod Cut
-pub mod Refuses
-pub mod Ledger
-pub mod Limited
+-- For proofs of this crate and of others: `Each` is on lists. What holds of every rule is in proofs/Laws.
 pub mod Each

@@ -18,7 +18,7 @@ use Rattle.mania.specs.declared.Stair.{Stair}
 use Rattle.mania.specs.Chart.{body, written}
 use Rattle.mania.specs.Object.{object}
 use Rattle.mania.specs.Single.{Single, made, refusing, entry_refusal, single_object}
-use Rattle.mania.specs.Laws.Singles.{single_full, single_made}
+use Rattle.mania.proofs.Laws.Singles.{single_full, single_made}
 use Rattle.entry.specs.Laws.{checked}
 use Rattle.pattern.specs.declared.Pattern.{Pattern}
 use Rattle.pattern.specs.Answers.{made_by}

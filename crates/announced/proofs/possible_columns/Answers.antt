@@ -9,8 +9,7 @@ use Rattle.announced.proofs.possible_columns.Goals as goal
 
 pub gather-mask-requires : goal.gather-mask-requires
 gather-mask-requires c =
-    let r = c in
-    let f = (checked _ _ _ _ (sym r.columns_refusal-refusal.ensures ∙ c.if-refusal-ne0.false)).od_fits in
+    let f = (checked _ _ _ _ (sym c.columns_refusal-refusal.ensures ∙ c.if-refusal-ne0.false)).od_fits in
     within c.to_count_f32-od_low.ensures c.to_count_f32-od_high.ensures (ends_order _ f) (high_small _ f)
   where
     within : {a b i j : ℕ} → a ≡ i → b ≡ j → i ≤ j → j ≤ 10 → (a ≤ b) × (b < 2147483648)
@@ -18,10 +17,9 @@ gather-mask-requires c =
 
 pub returns : goal.returns
 returns c =
-    let r = c in
-    let e = sym r.columns_refusal-refusal.ensures ∙ c.if-refusal-ne0.false in
-    let od = r.well_formed.0.1.1 in
-    let cs = r.well_formed.1.0.1.1 in
+    let e = sym c.columns_refusal-refusal.ensures ∙ c.if-refusal-ne0.false in
+    let od = c.well_formed.0.1.1 in
+    let cs = c.well_formed.1.0.1.1 in
     let m = c.gather-mask.ensures ∙ same _ _ c.to_count_f32-od_low.ensures c.to_count_f32-od_high.ensures c.to_count_f32-cs_low.ensures c.to_count_f32-cs_high.ensures in (
       e,
       λ k. (

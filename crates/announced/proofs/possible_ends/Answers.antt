@@ -20,16 +20,13 @@ returns-then-not-distance_fits c =
 pub returns-then-latest-gt-LATEST_END : goal.returns-then-latest-gt-LATEST_END
 unfolding ends_refusal
 returns-then-latest-gt-LATEST_END c =
-    let d = c in
-    (rw (← d.rest_refusal-refusal.ensures, eq-eqb _ 0 d.if-refusal-ne0.false, ← d.distance_fits.ensures, d.if-not-distance_fits.false, ← c.end_at-latest.ensures, lt-ltb _ _ c.if-latest-gt-LATEST_END.true), lit< tt)
+    (rw (← c.rest_refusal-refusal.ensures, eq-eqb _ 0 c.if-refusal-ne0.false, ← c.distance_fits.ensures, c.if-not-distance_fits.false, ← c.end_at-latest.ensures, lt-ltb _ _ c.if-latest-gt-LATEST_END.true), lit< tt)
 
 pub returns : goal.returns
 unfolding ends_refusal
 returns c =
-    let d = c in
-    let r = d in
-    let g = r.well_formed.1.0.1.1 in (
-      rw (← r.rest_refusal-refusal.ensures, eq-eqb _ 0 d.if-refusal-ne0.false, ← d.distance_fits.ensures, d.if-not-distance_fits.false, ← c.end_at-latest.ensures, le-ltb _ _ c.if-latest-gt-LATEST_END.false),
+    let g = c.well_formed.1.0.1.1 in (
+      rw (← c.rest_refusal-refusal.ensures, eq-eqb _ 0 c.if-refusal-ne0.false, ← c.distance_fits.ensures, c.if-not-distance_fits.false, ← c.end_at-latest.ensures, le-ltb _ _ c.if-latest-gt-LATEST_END.false),
       rw (c.end_at-earliest.ensures, c.end_at-latest.ensures)
-          (ends_from _ _ (sym r.rest_refusal-refusal.ensures ∙ d.if-refusal-ne0.false) (sym d.distance_fits.ensures ∙ d.if-not-distance_fits.false) (subst T (sym g.0.1) tt) (subst T (sym g.1.0.1) tt)),
+          (ends_from _ _ (sym c.rest_refusal-refusal.ensures ∙ c.if-refusal-ne0.false) (sym c.distance_fits.ensures ∙ c.if-not-distance_fits.false) (subst T (sym g.0.1) tt) (subst T (sym g.1.0.1) tt)),
     )

@@ -10,7 +10,6 @@ use Rattle.announced.proofs.rest_refusal.Goals as goal
 pub returns : goal.returns
 unfolding rest_refusal nothing round of_bits
 returns c =
-    let t = c in
     c.entry_refusal.ensures
     ∙ ap (λ (f : Facts). entry_refusal f nothing 1 c.object_of-object.result) c.facts_of-facts.ensures
-    ∙ ap (λ (o : Object). entry_refusal (facts_of t.args.slider) nothing 1 o) c.object_of-object.ensures
+    ∙ ap (λ (o : Object). entry_refusal (facts_of c.args.slider) nothing 1 o) c.object_of-object.ensures

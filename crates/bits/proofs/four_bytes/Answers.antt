@@ -4,7 +4,4 @@ use Rattle.bits.proofs.four_bytes.Goals as goal
 
 pub returns : goal.returns
 returns c =
-    let d = c in
-    let e = d in
-    let f = e in
-    four _ _ _ _ _ _ f.joined-one.ensures e.joined-two.ensures d.joined-three.ensures c.joined.ensures
+    four _ _ _ _ _ _ c.joined-one.ensures c.joined-two.ensures c.joined-three.ensures c.joined.ensures

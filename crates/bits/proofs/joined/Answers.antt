@@ -17,13 +17,11 @@ fits v r k h a b =
 
 pub overflow_mul-result : goal.overflow_mul-result
 overflow_mul-result c =
-    let a = c in
-    rw c.power-p.ensures (omega (arith, fits a.args.v 0 a.args.k (omega arith) a.requires.2 (pow_pos a.args.k)))
+    rw c.power-p.ensures (omega (arith, fits c.args.v 0 c.args.k (omega arith) c.requires.2 (pow_pos c.args.k)))
 
 pub overflow_add-result : goal.overflow_add-result
 overflow_add-result c =
-    let a = c in
-    rw c.power-p.ensures (record { fits = fits a.args.v _ a.args.k (omega arith) a.requires.2 (mod-lt _ (pow_pos a.args.k)) })
+    rw c.power-p.ensures (record { fits = fits c.args.v _ c.args.k (omega arith) c.requires.2 (mod-lt _ (pow_pos c.args.k)) })
 
 pub returns : goal.returns
 returns c = rw (c.power-p.ensures, c.power.ensures)

@@ -18,25 +18,17 @@ returns-then-not-times_ok c = rw (sym c.times_ok.ensures ∙ c.if-not-times_ok.t
 
 pub list_starting-requires : goal.list_starting-requires
 unfolding times_ok
-list_starting-requires c = let w = c in
-    let e = w in
-    let k = both (finite w.in-Starting.from) (finite w.in-Starting.to) (both (finite w.in-Starting.from && finite w.in-Starting.to) (not (lt w.in-Starting.to w.in-Starting.from)) (rw w.in-Starting.is at (times (goal.at.list_starting-requires c).Else-not-times_ok))).0 in
-    (e.requires, k.0, k.1)
+list_starting-requires c = let k = both (finite c.in-Starting.from) (finite c.in-Starting.to) (both (finite c.in-Starting.from && finite c.in-Starting.to) (not (lt c.in-Starting.to c.in-Starting.from)) (rw c.in-Starting.is at (times (goal.at.list_starting-requires c).Else-not-times_ok))).0 in
+    (c.requires, k.0, k.1)
 
 pub list_covering-requires : goal.list_covering-requires
 unfolding times_ok
-list_covering-requires c = let w = c in
-    let e = w in
-    (e.requires, rw w.in-Covering.is at (times (goal.at.list_covering-requires c).Else-not-times_ok))
+list_covering-requires c = (c.requires, rw c.in-Covering.is at (times (goal.at.list_covering-requires c).Else-not-times_ok))
 
 pub returns-in-Starting : goal.returns-in-Starting
 unfolding listed
-returns-in-Starting c = let r = c in
-    let w = r in
-    rw (times (goal.at.returns-in-Starting c).Else-not-times_ok, w.in-Starting.is) r.list_starting.ensures
+returns-in-Starting c = rw (times (goal.at.returns-in-Starting c).Else-not-times_ok, c.in-Starting.is) c.list_starting.ensures
 
 pub returns-in-Covering : goal.returns-in-Covering
 unfolding listed
-returns-in-Covering c = let r = c in
-    let w = r in
-    rw (times (goal.at.returns-in-Covering c).Else-not-times_ok, w.in-Covering.is) r.list_covering.ensures
+returns-in-Covering c = rw (times (goal.at.returns-in-Covering c).Else-not-times_ok, c.in-Covering.is) c.list_covering.ensures

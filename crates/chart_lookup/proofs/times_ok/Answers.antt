@@ -10,13 +10,11 @@ returns-then-not-is_finite c = rw (c.in-Starting.is, sym c.is_finite.ensures ∙
 
 pub returns-then-not-is_finite-2 : goal.returns-then-not-is_finite-2
 unfolding times_ok
-returns-then-not-is_finite-2 c = let a = c in
-    rw (a.in-Starting.is, sym a.is_finite.ensures ∙ a.if-not-is_finite.false, sym c.is_finite-in-Starting.ensures ∙ c.if-not-is_finite-2.true)
+returns-then-not-is_finite-2 c = rw (c.in-Starting.is, sym c.is_finite.ensures ∙ c.if-not-is_finite.false, sym c.is_finite-in-Starting.ensures ∙ c.if-not-is_finite-2.true)
 
 pub returns-else-not-is_finite-2 : goal.returns-else-not-is_finite-2
 unfolding times_ok
-returns-else-not-is_finite-2 c = let a = c in
-    rw (a.in-Starting.is, sym a.is_finite.ensures ∙ a.if-not-is_finite.false, sym c.is_finite-in-Starting.ensures ∙ c.if-not-is_finite-2.false)
+returns-else-not-is_finite-2 c = rw (c.in-Starting.is, sym c.is_finite.ensures ∙ c.if-not-is_finite.false, sym c.is_finite-in-Starting.ensures ∙ c.if-not-is_finite-2.false)
 
 pub returns-in-Covering : goal.returns-in-Covering
 unfolding times_ok

@@ -35,10 +35,9 @@ returns-then-not-lasting c = note_refused _ _ _ 4 (sym c.lasting.ensures ∙ c.i
 
 pub returns : goal.returns
 returns c =
-    let p = c in
-    let a = p.args in
+    let a = c.args in
     let ordered : leb (rank a.last) (rank a.n) ≡ true =
-    le-leb (rank a.last) (rank a.n) (ltb-false (rank a.n) (rank a.last) (sym p.precedes.ensures ∙ c.if-precedes.false)) in
+    le-leb (rank a.last) (rank a.n) (ltb-false (rank a.n) (rank a.last) (sym c.precedes.ensures ∙ c.if-precedes.false)) in
     c.within.ensures
     ∙ note_decided a.columns (rank a.last) a.n (lt-ltb a.n.column a.columns (search rules)) (time_below a.n.start (search rules)) (time_below a.n.duration (search rules)) ordered
     (sym c.lasting.ensures ∙ c.if-not-lasting.false)

@@ -11,12 +11,10 @@ returns-then-chart-lt-HEADER_SIZE c = note_short _ _ c.if-chart-lt-HEADER_SIZE.t
 pub returns-then-at-note_size : goal.returns-then-at-note_size
 unfolding note_by
 returns-then-at-note_size c =
-    let v = c in
-    rw (lt-leb _ _ (rw (c.note_size.ensures.0, c.place-at.ensures.0, v.version_of-version.ensures) at c.if-at-note_size.true))
+    rw (lt-leb _ _ (rw (c.note_size.ensures.0, c.place-at.ensures.0, c.version_of-version.ensures) at c.if-at-note_size.true))
 
 pub returns : goal.returns
 unfolding note_by
 returns c =
-    let v = c in
     let place = c.place-at.ensures.0 in
-    rw (le-leb _ _ (rw (c.note_size.ensures.0, place, v.version_of-version.ensures) at c.if-at-note_size.false), c.note_in.ensures, place, v.version_of-version.ensures)
+    rw (le-leb _ _ (rw (c.note_size.ensures.0, place, c.version_of-version.ensures) at c.if-at-note_size.false), c.note_in.ensures, place, c.version_of-version.ensures)

@@ -44,8 +44,7 @@ rows_ok-requires c =
 pub returns-then-not-rows_ok : goal.returns-then-not-rows_ok
 unfolding columns_of count_of
 returns-then-not-rows_ok c =
-    let g = c in
-    refused_rows _ (rw (g.version_of-version.ensures, g.get-notes.ensures.0) at (sym c.rows_ok.ensures ∙ c.if-not-rows_ok.true))
+    refused_rows _ (rw (c.version_of-version.ensures, c.get-notes.ensures.0) at (sym c.rows_ok.ensures ∙ c.if-not-rows_ok.true))
 
 pub draws_in-requires : goal.draws_in-requires
 draws_in-requires c = long _ (okay (goal.at.draws_in-requires c).Else-not-header_ok)
@@ -53,7 +52,6 @@ draws_in-requires c = long _ (okay (goal.at.draws_in-requires c).Else-not-header
 pub returns : goal.returns
 unfolding columns_of count_of
 returns c =
-    let g = c in
-    let v = g.version_of-version.ensures in
-    let rows = rw (v, g.get-notes.ensures.0) at (sym c.rows_ok.ensures ∙ c.if-not-rows_ok.false) in
-    rw (v, g.get-notes.ensures.0, c.draws_in.ensures) (all_pass _ (okay (goal.at.returns c).Else-not-header_ok) rows)
+    let v = c.version_of-version.ensures in
+    let rows = rw (v, c.get-notes.ensures.0) at (sym c.rows_ok.ensures ∙ c.if-not-rows_ok.false) in
+    rw (v, c.get-notes.ensures.0, c.draws_in.ensures) (all_pass _ (okay (goal.at.returns c).Else-not-header_ok) rows)

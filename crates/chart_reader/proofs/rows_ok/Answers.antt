@@ -17,47 +17,38 @@ loop-i-init c = (search rules, search rules, rw (sub-zero, chart_none))
 
 pub zeros_ok-requires : goal.zeros_ok-requires
 zeros_ok-requires c =
-    let start = c in
-    rw c.place-at.ensures.0 (le_trans (chart_room start.args.version c.loop-i.i start.args.count c.loop-i-test.true) start.requires.1)
+    rw c.place-at.ensures.0 (le_trans (chart_room c.args.version c.loop-i.i c.args.count c.loop-i-test.true) c.requires.1)
 
 pub returns-then-not-zeros_ok : goal.returns-then-not-zeros_ok
 returns-then-not-zeros_ok c =
-    let l = c in
-    let start = l in
     let more = c.loop-i-test.true in
     let bad = rw c.place-at.ensures.0 at (sym c.zeros_ok.ensures ∙ c.if-not-zeros_ok.true) in
-    sym (sym l.loop-i.invariant.2 ∙ row_zeros _ _ _ _ _ start.args.chart.now more (eqb-false _ 0 bad))
+    sym (sym c.loop-i.invariant.2 ∙ row_zeros _ _ _ _ _ c.args.chart.now more (eqb-false _ 0 bad))
 
 pub note_in-n-requires : goal.note_in-n-requires
 note_in-n-requires c =
-    let start = c in
     rw c.place-at.ensures.0
-    (le_trans (chart_room start.args.version c.loop-i.i start.args.count c.loop-i-test.true) start.requires.1)
+    (le_trans (chart_room c.args.version c.loop-i.i c.args.count c.loop-i-test.true) c.requires.1)
 
 pub returns-then-not-may_stand : goal.returns-then-not-may_stand
 returns-then-not-may_stand c =
     let place = c.place-at.ensures.0 in
-    let l = c in
-    let start = l in
     let more = c.loop-i-test.true in
     let bad = rw (c.note_in-n.ensures, place) at (sym c.may_stand.ensures ∙ c.if-not-may_stand.true) in
-    sym (sym l.loop-i.invariant.2 ∙ row_note _ _ _ _ _ start.args.chart.now more bad)
+    sym (sym c.loop-i.invariant.2 ∙ row_note _ _ _ _ _ c.args.chart.now more bad)
 
 pub loop-i-preserved : goal.loop-i-preserved
 unfolding ok_note note_tests
 loop-i-preserved c =
     let place = c.place-at.ensures.0 in
-    let l = c in
-    let start = l in
     let more = c.loop-i-test.true in
     let good = sym c.may_stand.ensures ∙ c.if-not-may_stand.false in
     let note = c.note_in-n.ensures in
     let here = rw (note, place) at good in
     let zeros = rw place at (sym c.zeros_ok.ensures ∙ c.if-not-zeros_ok.false) in
-    let on = ltb-true c.note_in-n.result.column start.args.columns (passes (note_tests _ _ c.note_in-n.result) good 0) in
-    (search rules, lt_trans on start.requires.0, rw (note, place) (sym (row_next _ _ _ _ _ start.args.chart.now more (eqb-true _ 0 zeros) here) ∙ l.loop-i.invariant.2))
+    let on = ltb-true c.note_in-n.result.column c.args.columns (passes (note_tests _ _ c.note_in-n.result) good 0) in
+    (search rules, lt_trans on c.requires.0, rw (note, place) (sym (row_next _ _ _ _ _ c.args.chart.now more (eqb-true _ 0 zeros) here) ∙ c.loop-i.invariant.2))
 
 pub returns : goal.returns
 returns c =
-    let l = c in
-    sym (sym l.loop-i.invariant.2 ∙ rows_end _ _ _ _ l.loop-i.i _ (search rules))
+    sym (sym c.loop-i.invariant.2 ∙ rows_end _ _ _ _ c.loop-i.i _ (search rules))

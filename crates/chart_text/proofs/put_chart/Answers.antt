@@ -12,39 +12,29 @@ use Rattle.chart_text.proofs.put_chart.Goals as goal
 
 pub put_head_line-at-requires : goal.put_head_line-at-requires
 put_head_line-at-requires c =
-    let arm = c in
-    let read = arm in
-    let s = read.args.chart.now in
-    let n = arm.in-Chart in
-    let is = read_text s n.version n.columns n.notes n.draws (sym read.read.ensures ∙ ap meaning arm.in-Chart.is) in
-    omega (arith, is.size, read.requires)
+    let s = c.args.chart.now in
+    let n = c.in-Chart in
+    let is = read_text s n.version n.columns n.notes n.draws (sym c.read.ensures ∙ ap meaning c.in-Chart.is) in
+    omega (arith, is.size, c.requires)
 
 pub put_note_lines-requires : goal.put_note_lines-requires
 put_note_lines-requires c =
-    let head = c in
-    let arm = head in
-    let read = arm in
-    let s = read.args.chart.now in
-    let n = arm.in-Chart in
-    let is = read_text s n.version n.columns n.notes n.draws (sym read.read.ensures ∙ ap meaning arm.in-Chart.is) in
-    (is.number, omega (arith, is.size, read.requires, head.put_head_line-at.ensures.value.1, head.put_head_line-at.auto.s))
+    let s = c.args.chart.now in
+    let n = c.in-Chart in
+    let is = read_text s n.version n.columns n.notes n.draws (sym c.read.ensures ∙ ap meaning c.in-Chart.is) in
+    (is.number, omega (arith, is.size, c.requires, c.put_head_line-at.ensures.value.1, c.put_head_line-at.auto.s))
 
 pub returns-in-Chart : goal.returns-in-Chart
 returns-in-Chart c =
-    let notes = c in
-    let head = notes in
-    let arm = head in
-    let read = arm in
-    let s = read.args.chart.now in
-    let n = arm.in-Chart in
-    let is = read_text s n.version n.columns n.notes n.draws (sym read.read.ensures ∙ ap meaning arm.in-Chart.is) in
-    let fits : notes.put_note_lines.result ≤ length read.args.s.now =
-    omega (arith, is.size, read.requires, head.put_head_line-at.ensures.value.1, notes.put_note_lines.ensures.value.1) in
-    let lines = wrote_next _ (wrote_first _ head.put_head_line-at.ensures.s_after head.put_head_line-at.ensures.value.0) notes.put_note_lines.ensures.s_after notes.put_note_lines.ensures.value.0 fits in
+    let s = c.args.chart.now in
+    let n = c.in-Chart in
+    let is = read_text s n.version n.columns n.notes n.draws (sym c.read.ensures ∙ ap meaning c.in-Chart.is) in
+    let fits : c.put_note_lines.result ≤ length c.args.s.now =
+    omega (arith, is.size, c.requires, c.put_head_line-at.ensures.value.1, c.put_note_lines.ensures.value.1) in
+    let lines = wrote_next _ (wrote_first _ c.put_head_line-at.ensures.s_after c.put_head_line-at.ensures.value.0) c.put_note_lines.ensures.s_after c.put_note_lines.ensures.value.0 fits in
     rw is.is (record { value = (lines.next ∙ zero-add _, fits); s_after = lines.bytes })
 
 pub returns-in-Refused : goal.returns-in-Refused
 returns-in-Refused c =
-    let start = c in
-    let none = refused_text start.args.chart.now _ (sym c.read.ensures ∙ ap meaning c.in-Refused.is) in
-    rw none (record { value = (refl, omega arith); s_after = sym (splice_none start.args.s.now 0 (omega arith)) })
+    let none = refused_text c.args.chart.now _ (sym c.read.ensures ∙ ap meaning c.in-Refused.is) in
+    rw none (record { value = (refl, omega arith); s_after = sym (splice_none c.args.s.now 0 (omega arith)) })

@@ -8,13 +8,9 @@ use Rattle.chart_text.proofs.put_head_line.Goals as goal
 pub returns : goal.returns
 unfolding head_line ascii
 returns c =
-    let d = c in
-    let z = d in
-    let y = z in
-    let x = y in
-    let a = x.args in
-    let line₁ = wrote_first (named (ascii "columns ") a.columns) x.put_named-a.ensures.s_after x.put_named-a.ensures.value.0 in
-    let line₂ = wrote_next (named (ascii " notes ") a.notes) line₁ y.put_named-b.ensures.s_after y.put_named-b.ensures.value.0 (search rules) in
-    let line₃ = wrote_next (named (ascii " draws ") a.draws) line₂ z.put_named-c.ensures.s_after z.put_named-c.ensures.value.0 (search rules) in
-    let line = wrote_next (ascii "\n") line₃ d.put_word.ensures.s_after d.put_word.ensures.value (search rules) in
+    let a = c.args in
+    let line₁ = wrote_first (named (ascii "columns ") a.columns) c.put_named-a.ensures.s_after c.put_named-a.ensures.value.0 in
+    let line₂ = wrote_next (named (ascii " notes ") a.notes) line₁ c.put_named-b.ensures.s_after c.put_named-b.ensures.value.0 (search rules) in
+    let line₃ = wrote_next (named (ascii " draws ") a.draws) line₂ c.put_named-c.ensures.s_after c.put_named-c.ensures.value.0 (search rules) in
+    let line = wrote_next (ascii "\n") line₃ c.put_word.ensures.s_after c.put_word.ensures.value (search rules) in
     record { value = (line.next, search rules); s_after = line.bytes }

@@ -21,12 +21,10 @@ loop-i-init c =
 
 pub loop-i-preserved : goal.loop-i-preserved
 loop-i-preserved c =
-    let put = c in
-    let note = put in
-    let l = note.loop-i in
-    let a = note.args in
-    let kept : length put.put_note_line-next.new.s ≡ length a.s.now = put.put_note_line-next.auto.s ∙ l.invariant.1.1.0 in
-    let line = wrote_next (note_line (get_or (notes_in a.chart.now) l.i blank)) l.invariant.1.1.1 (put.put_note_line-next.ensures.s_after ∙ rw note.note_of-n.ensures) (put.put_note_line-next.ensures.value.0 ∙ rw note.note_of-n.ensures) (omega arith) in
+    let l = c.loop-i in
+    let a = c.args in
+    let kept : length c.put_note_line-next.new.s ≡ length a.s.now = c.put_note_line-next.auto.s ∙ l.invariant.1.1.0 in
+    let line = wrote_next (note_line (get_or (notes_in a.chart.now) l.i blank)) l.invariant.1.1.1 (c.put_note_line-next.ensures.s_after ∙ rw c.note_of-n.ensures) (c.put_note_line-next.ensures.value.0 ∙ rw c.note_of-n.ensures) (omega arith) in
     (omega arith, (omega arith, (kept, rw (lines_more l.i (notes_in a.chart.now) (omega arith)) line)))
 
 pub shape_of-s : goal.shape_of-s

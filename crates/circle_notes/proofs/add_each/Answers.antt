@@ -27,23 +27,21 @@ loop-i-init c =
 
 pub loop-i-preserved : goal.loop-i-preserved
 loop-i-preserved c =
-    let f = c in
-    let l = f.loop-i in
+    let l = c.loop-i in
     record {
       same = omega arith;
-      many = omega (arith, subst (AtMost _) c.in-Notes.is f.add_one.ensures.1);
+      many = omega (arith, subst (AtMost _) c.in-Notes.is c.add_one.ensures.1);
       within = omega arith;
       goes =
-          sym (each_more _ _ _ _ _ f.loop-i-test.true _ f.goal_of-c.ensures _ _
-          (sym f.add_one.ensures.0 ∙ ap (placed _ _) c.in-Notes.is)) ∙ l.invariant.goes;
+          sym (each_more _ _ _ _ _ c.loop-i-test.true _ c.goal_of-c.ensures _ _
+          (sym c.add_one.ensures.0 ∙ ap (placed _ _) c.in-Notes.is)) ∙ l.invariant.goes;
     }
 
 pub returns-in-Refused : goal.returns-in-Refused
 returns-in-Refused c =
-    let f = c in
-    let l = f.loop-i in (
-      sym (each_refused _ _ _ _ _ f.loop-i-test.true _ f.goal_of-c.ensures _ _
-          (sym f.add_one.ensures.0 ∙ ap (placed _ _) c.in-Refused.is)) ∙ l.invariant.goes,
+    let l = c.loop-i in (
+      sym (each_refused _ _ _ _ _ c.loop-i-test.true _ c.goal_of-c.ensures _ _
+          (sym c.add_one.ensures.0 ∙ ap (placed _ _) c.in-Refused.is)) ∙ l.invariant.goes,
       tt,
     )
 

@@ -33,7 +33,6 @@ low c = rw c.random_start-low.ensures (start_small _ (omega arith))
 
 pub find_available_column-requires : goal.find_available_column-requires
 find_available_column-requires c =
-    let r = c in
     (omega arith, omega arith, low (goal.at.find_available_column-requires c).After-random_start-low, omega arith)
 
 -- what the search gave, in the rule's words
@@ -42,8 +41,7 @@ got : (c : In-Given)
     on (find_available_column Draw a.g.columns l.at (random_start a.g.columns) (a.g.columns / 2) l.p.mask) l.rest
     ≡ found c.in-Given.c c.in-Given.next
 got c =
-    let n = c in
-    rw (← n.random_start-low.ensures) (sym c.find_available_column.ensures ∙ ap number c.in-Given.is)
+    rw (← c.random_start-low.ensures) (sym c.find_available_column.ensures ∙ ap number c.in-Given.is)
 
 small : (c : In-Given) → c.in-Given.c < c.args.g.columns
 small c =
@@ -56,26 +54,22 @@ add_pair-requires c = omega (arith, small (goal.at.add_pair-requires c).In-Given
 pub loop-left-preserved : goal.loop-left-preserved
 unfolding pattern
 loop-left-preserved c =
-    let f = c in
-    let k = f in
-    let l = k.loop-left in
+    let l = c.loop-left in
     record {
       same = omega arith;
-      many = omega (arith, subst (AtMost _) c.in-Notes.is f.add_pair.ensures.1);
+      many = omega (arith, subst (AtMost _) c.in-Notes.is c.add_pair.ensures.1);
       fine = small (goal.at.loop-left-preserved c).In-Given;
       goes =
-          sym (mirrored_more _ _ _ _ _ k.loop-left-test.true _ _ (got (goal.at.loop-left-preserved c).In-Given) _ _
-          (sym f.add_pair.ensures.0 ∙ ap (placed _ _) c.in-Notes.is)) ∙ l.invariant.goes;
+          sym (mirrored_more _ _ _ _ _ c.loop-left-test.true _ _ (got (goal.at.loop-left-preserved c).In-Given) _ _
+          (sym c.add_pair.ensures.0 ∙ ap (placed _ _) c.in-Notes.is)) ∙ l.invariant.goes;
     }
 
 pub returns-in-Refused-add_pair : goal.returns-in-Refused-add_pair
 unfolding pattern
 returns-in-Refused-add_pair c =
-    let f = c in
-    let k = f in
-    let l = k.loop-left in (
-      sym (mirrored_off _ _ _ _ _ k.loop-left-test.true _ _ (got (goal.at.returns-in-Refused-add_pair c).In-Given) _ _
-          (sym f.add_pair.ensures.0 ∙ ap (placed _ _) c.in-Refused-add_pair.is)) ∙ l.invariant.goes,
+    let l = c.loop-left in (
+      sym (mirrored_off _ _ _ _ _ c.loop-left-test.true _ _ (got (goal.at.returns-in-Refused-add_pair c).In-Given) _ _
+          (sym c.add_pair.ensures.0 ∙ ap (placed _ _) c.in-Refused-add_pair.is)) ∙ l.invariant.goes,
       tt,
     )
 
@@ -85,10 +79,9 @@ shape_of-words-in-Refused c = c.loop-left.invariant.same
 pub returns-in-Refused : goal.returns-in-Refused
 unfolding pattern
 returns-in-Refused c =
-    let n = c in
     let l = c.loop-left in (
       sym (mirrored_refused _ _ _ _ _ c.loop-left-test.true _ _
-          (rw (← n.random_start-low.ensures) (sym c.find_available_column.ensures ∙ ap number c.in-Refused.is)))
+          (rw (← c.random_start-low.ensures) (sym c.find_available_column.ensures ∙ ap number c.in-Refused.is)))
           ∙ l.invariant.goes,
       tt,
     )

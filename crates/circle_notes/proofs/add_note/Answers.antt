@@ -9,5 +9,4 @@ returns-then-columns-c c = (sym (note_off _ _ _ _ c.if-columns-c.true), tt)
 
 pub returns : goal.returns
 returns c =
-    let a = c in
-    (sym (note_on_law a.args.g _ _ a.args.words.now a.args.p _ (omega arith) (omega arith) (omega arith) c.with_column-with.ensures), omega arith)
+    (sym (note_on_law c.args.g _ _ c.args.words.now c.args.p _ (omega arith) (omega arith) (omega arith) c.with_column-with.ensures), omega arith)

@@ -9,5 +9,4 @@ returns-then-is_free c = (sym (one_free _ _ _ _ _ (sym c.is_free.ensures ∙ c.i
 
 pub returns : goal.returns
 returns c =
-    let k = c in
-    (c.add_note.ensures.0 ∙ sym (one_taken _ _ _ _ _ (sym k.is_free.ensures ∙ k.if-is_free.false)), c.add_note.ensures.1)
+    (c.add_note.ensures.0 ∙ sym (one_taken _ _ _ _ _ (sym c.is_free.ensures ∙ c.if-is_free.false)), c.add_note.ensures.1)

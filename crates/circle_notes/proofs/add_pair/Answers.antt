@@ -13,15 +13,12 @@ add_note-requires-in-Notes c = omega (arith, subst (AtMost _) c.in-Notes.is c.ad
 pub returns-in-Notes : goal.returns-in-Notes
 unfolding add_pair
 returns-in-Notes c =
-    let t = c in
-    let f = t in
     let k = c.add_note-in-Notes.ensures in (
-      k.0 ∙ sym (found_bind _ _ _ _ _ (sym f.add_note.ensures.0 ∙ ap (placed _ _) t.in-Notes.is) ∙ rw (← f.goal_of-other.ensures)),
-      at_most_le _ _ (omega (arith, subst (AtMost _) t.in-Notes.is f.add_note.ensures.1)) c.add_note-in-Notes.result k.1,
+      k.0 ∙ sym (found_bind _ _ _ _ _ (sym c.add_note.ensures.0 ∙ ap (placed _ _) c.in-Notes.is) ∙ rw (← c.goal_of-other.ensures)),
+      at_most_le _ _ (omega (arith, subst (AtMost _) c.in-Notes.is c.add_note.ensures.1)) c.add_note-in-Notes.result k.1,
     )
 
 pub returns-in-Refused : goal.returns-in-Refused
 unfolding add_pair
 returns-in-Refused c =
-    let f = c in
-    (sym (refused_bind _ _ _ _ _ (sym f.add_note.ensures.0 ∙ ap (placed _ _) c.in-Refused.is)), tt)
+    (sym (refused_bind _ _ _ _ _ (sym c.add_note.ensures.0 ∙ ap (placed _ _) c.in-Refused.is)), tt)

@@ -32,7 +32,6 @@ low c = rw c.random_start-low.ensures (start_lt _ (omega arith))
 
 pub find_available_column-requires : goal.find_available_column-requires
 find_available_column-requires c =
-    let r = c in
     (omega arith, omega arith, low (goal.at.find_available_column-requires c).After-random_start-low, omega arith)
 
 -- what the search gave, in the rule's words
@@ -41,8 +40,7 @@ got : (c : In-Given)
     on (find_available_column (next_of a.g) a.g.columns l.at (random_start a.g.columns) a.g.columns (bit_or l.p.mask a.barred)) l.rest
     ≡ found c.in-Given.c c.in-Given.next
 got c =
-    let n = c in
-    rw (← n.next_of-how.ensures, ← n.random_start-low.ensures) (sym c.find_available_column.ensures ∙ ap number c.in-Given.is)
+    rw (← c.next_of-how.ensures, ← c.random_start-low.ensures) (sym c.find_available_column.ensures ∙ ap number c.in-Given.is)
 
 small : (c : In-Given) → c.in-Given.c < c.args.g.columns
 small c =
@@ -52,26 +50,22 @@ small c =
 pub loop-left-preserved : goal.loop-left-preserved
 unfolding pattern
 loop-left-preserved c =
-    let f = c in
-    let k = f in
-    let l = k.loop-left in
+    let l = c.loop-left in
     record {
       same = omega arith;
-      many = omega (arith, subst (AtMost _) c.in-Notes.is f.add_note.ensures.1);
+      many = omega (arith, subst (AtMost _) c.in-Notes.is c.add_note.ensures.1);
       fine = small (goal.at.loop-left-preserved c).In-Given;
       goes =
-          sym (random_more _ _ _ _ _ _ k.loop-left-test.true _ _ (got (goal.at.loop-left-preserved c).In-Given) _ _
-          (sym f.add_note.ensures.0 ∙ ap (placed _ _) c.in-Notes.is)) ∙ l.invariant.goes;
+          sym (random_more _ _ _ _ _ _ c.loop-left-test.true _ _ (got (goal.at.loop-left-preserved c).In-Given) _ _
+          (sym c.add_note.ensures.0 ∙ ap (placed _ _) c.in-Notes.is)) ∙ l.invariant.goes;
     }
 
 pub returns-in-Refused-add_note : goal.returns-in-Refused-add_note
 unfolding pattern
 returns-in-Refused-add_note c =
-    let f = c in
-    let k = f in
-    let l = k.loop-left in (
-      sym (random_off _ _ _ _ _ _ k.loop-left-test.true _ _ (got (goal.at.returns-in-Refused-add_note c).In-Given) _ _
-          (sym f.add_note.ensures.0 ∙ ap (placed _ _) c.in-Refused-add_note.is)) ∙ l.invariant.goes,
+    let l = c.loop-left in (
+      sym (random_off _ _ _ _ _ _ c.loop-left-test.true _ _ (got (goal.at.returns-in-Refused-add_note c).In-Given) _ _
+          (sym c.add_note.ensures.0 ∙ ap (placed _ _) c.in-Refused-add_note.is)) ∙ l.invariant.goes,
       tt,
     )
 
@@ -81,10 +75,9 @@ shape_of-words-in-Refused c = c.loop-left.invariant.same
 pub returns-in-Refused : goal.returns-in-Refused
 unfolding pattern
 returns-in-Refused c =
-    let n = c in
     let l = c.loop-left in (
       sym (random_refused _ _ _ _ _ _ c.loop-left-test.true _ _
-          (rw (← n.next_of-how.ensures, ← n.random_start-low.ensures) (sym c.find_available_column.ensures ∙ ap number c.in-Refused.is)))
+          (rw (← c.next_of-how.ensures, ← c.random_start-low.ensures) (sym c.find_available_column.ensures ∙ ap number c.in-Refused.is)))
           ∙ l.invariant.goes,
       tt,
     )

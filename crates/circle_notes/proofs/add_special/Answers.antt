@@ -8,9 +8,8 @@ use Rattle.circle_notes.proofs.add_special.Goals as goal
 pub returns-then-special : goal.returns-then-special
 unfolding add_special
 returns-then-special c =
-    let t = c in
     let k = c.add_note.ensures in
-    (rw (← t.random_start-low.ensures, ← t.has_flag-clap.ensures, ← t.has_flag-finish.ensures, t.if-special.true) k.0, at_most_le _ 14 (omega arith) c.add_note.result k.1)
+    (rw (← c.random_start-low.ensures, ← c.has_flag-clap.ensures, ← c.has_flag-finish.ensures, c.if-special.true) k.0, at_most_le _ 14 (omega arith) c.add_note.result k.1)
 
 pub returns : goal.returns
 unfolding add_special play

@@ -16,10 +16,8 @@ add_random-requires c = (small (goal.at.add_random-requires c).After-get_column-
 pub returns-then-has_type : goal.returns-then-has_type
 unfolding generate_random_notes
 returns-then-has_type c =
-    let n = c in
     let k = c.add_random.ensures in
-    let t = n in
-    (rw (← t.get_column-first.ensures, ← t.has_type.ensures, t.if-has_type.true, ← n.at_most_room-n.ensures) k.0, k.1)
+    (rw (← c.get_column-first.ensures, ← c.has_type.ensures, c.if-has_type.true, ← c.at_most_room-n.ensures) k.0, k.1)
 
 pub add_random-requires-2 : goal.add_random-requires-2
 add_random-requires-2 c = (small (goal.at.add_random-requires-2 c).After-get_column-first, omega arith, omega arith, omega arith)
@@ -28,5 +26,4 @@ pub returns : goal.returns
 unfolding generate_random_notes
 returns c =
     let k = c.add_random-2.ensures in
-    let t = c in
-    (rw (← t.get_column-first.ensures, ← t.has_type.ensures, t.if-has_type.false) k.0, k.1)
+    (rw (← c.get_column-first.ensures, ← c.has_type.ensures, c.if-has_type.false) k.0, k.1)

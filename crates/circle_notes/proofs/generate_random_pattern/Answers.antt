@@ -30,16 +30,13 @@ add_special-requires c = omega (arith, subst (AtMost _) c.in-Notes.is c.generate
 pub returns-in-Notes : goal.returns-in-Notes
 unfolding generate_random_pattern
 returns-in-Notes c =
-    let t = c in
-    let n = t in
     let k = c.add_special.ensures in
-    (k.0 ∙ sym (found_bind _ _ _ _ _ (got (goal.at.returns-in-Notes c).In-Given) ∙ found_bind _ _ _ _ _ (sym n.generate_random_notes.ensures.0 ∙ ap (placed _ _) t.in-Notes.is)), k.1)
+    (k.0 ∙ sym (found_bind _ _ _ _ _ (got (goal.at.returns-in-Notes c).In-Given) ∙ found_bind _ _ _ _ _ (sym c.generate_random_notes.ensures.0 ∙ ap (placed _ _) c.in-Notes.is)), k.1)
 
 pub returns-in-Refused-generate_random_notes : goal.returns-in-Refused-generate_random_notes
 unfolding generate_random_pattern
 returns-in-Refused-generate_random_notes c =
-    let n = c in
-    (sym (found_bind _ _ _ _ _ (got (goal.at.returns-in-Refused-generate_random_notes c).In-Given) ∙ refused_bind _ _ _ _ _ (sym n.generate_random_notes.ensures.0 ∙ ap (placed _ _) c.in-Refused-generate_random_notes.is)), tt)
+    (sym (found_bind _ _ _ _ _ (got (goal.at.returns-in-Refused-generate_random_notes c).In-Given) ∙ refused_bind _ _ _ _ _ (sym c.generate_random_notes.ensures.0 ∙ ap (placed _ _) c.in-Refused-generate_random_notes.is)), tt)
 
 pub returns-in-Refused : goal.returns-in-Refused
 unfolding generate_random_pattern

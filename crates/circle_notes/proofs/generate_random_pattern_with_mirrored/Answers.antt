@@ -8,17 +8,14 @@ use Rattle.circle_notes.proofs.generate_random_pattern_with_mirrored.Goals as go
 pub returns-then-has_type : goal.returns-then-has_type
 unfolding generate_random_pattern_with_mirrored
 returns-then-has_type c =
-    let u = c in
-    let t = u in
-    let a = t.args in
+    let a = c.args in
     let k = c.generate_random_pattern.ensures in (
-      k.0 ∙ sym (rw (← t.has_type.ensures, t.if-has_type.true) (ap (λ (p : CircleChances). on (generate_random_pattern a.g p) a.d) (sym u.unmirrored-chances.ensures))),
+      k.0 ∙ sym (rw (← c.has_type.ensures, c.if-has_type.true) (ap (λ (p : CircleChances). on (generate_random_pattern a.g p) a.d) (sym c.unmirrored-chances.ensures))),
       k.1,
     )
 
 pub returns : goal.returns
 unfolding generate_random_pattern_with_mirrored
 returns c =
-    let t = c in
     let k = c.mirror_notes.ensures in
-    (rw (← t.has_type.ensures, t.if-has_type.false) k.0, k.1)
+    (rw (← c.has_type.ensures, c.if-has_type.false) k.0, k.1)

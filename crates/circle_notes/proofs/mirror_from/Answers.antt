@@ -22,8 +22,8 @@ get_random_column-requires c = (low (goal.at.get_random_column-requires c).After
 
 -- what the draw gave, in the rule's words
 got : (c : In-Given)
-    → let r = c in let a = r.args in
-    on (get_random_column r.random_start-low.result (a.g.columns / 2)) a.d ≡ found c.in-Given.c c.in-Given.next
+    → let a = c.args in
+    on (get_random_column c.random_start-low.result (a.g.columns / 2)) a.d ≡ found c.in-Given.c c.in-Given.next
 got c = sym c.get_random_column.ensures ∙ ap number c.in-Given.is
 
 small : (c : In-Given) → c.in-Given.c < c.args.g.columns / 2
@@ -37,50 +37,39 @@ add_centre-requires c = omega (arith, subst (AtMost _) c.in-Notes.is c.add_mirro
 
 pub add_special-requires : goal.add_special-requires
 add_special-requires c =
-    let m = c in
-    let f = m in
-    let r = f.requires in
-    omega (arith, subst (AtMost _) c.in-Notes-add_centre.is m.add_centre.ensures.1, r.1, r.3, f.add_mirrored.auto.words, m.add_centre.auto.words)
+    let r = c.requires in
+    omega (arith, subst (AtMost _) c.in-Notes-add_centre.is c.add_centre.ensures.1, r.1, r.3, c.add_mirrored.auto.words, c.add_centre.auto.words)
 
 pub returns-in-Notes-add_centre : goal.returns-in-Notes-add_centre
 unfolding mirror_from
 returns-in-Notes-add_centre c =
-    let q = c in
-    let m = q in
-    let p = m in
-    let f = p in
-    let g = f in
     let k = c.add_special.ensures in (
       k.0
           ∙ sym
-          (rw (← g.random_start-low.ensures)
-          (found_bind _ _ _ _ _ (got (goal.at.returns-in-Notes-add_centre c).In-Given) ∙ found_bind _ _ _ _ _ (sym f.add_mirrored.ensures.0 ∙ ap (placed _ _) p.in-Notes.is)
-          ∙ found_bind _ _ _ _ _ (sym m.add_centre.ensures.0 ∙ ap (placed _ _) q.in-Notes-add_centre.is))),
+          (rw (← c.random_start-low.ensures)
+          (found_bind _ _ _ _ _ (got (goal.at.returns-in-Notes-add_centre c).In-Given) ∙ found_bind _ _ _ _ _ (sym c.add_mirrored.ensures.0 ∙ ap (placed _ _) c.in-Notes.is)
+          ∙ found_bind _ _ _ _ _ (sym c.add_centre.ensures.0 ∙ ap (placed _ _) c.in-Notes-add_centre.is))),
       k.1,
     )
 
 pub returns-in-Refused-add_centre : goal.returns-in-Refused-add_centre
 unfolding mirror_from
 returns-in-Refused-add_centre c =
-    let m = c in
-    let p = m in
-    let f = p in
-    let g = f in (
+    (
       sym
-          (rw (← g.random_start-low.ensures)
-          (found_bind _ _ _ _ _ (got (goal.at.returns-in-Refused-add_centre c).In-Given) ∙ found_bind _ _ _ _ _ (sym f.add_mirrored.ensures.0 ∙ ap (placed _ _) p.in-Notes.is)
-          ∙ refused_bind _ _ _ _ _ (sym m.add_centre.ensures.0 ∙ ap (placed _ _) c.in-Refused-add_centre.is))),
+          (rw (← c.random_start-low.ensures)
+          (found_bind _ _ _ _ _ (got (goal.at.returns-in-Refused-add_centre c).In-Given) ∙ found_bind _ _ _ _ _ (sym c.add_mirrored.ensures.0 ∙ ap (placed _ _) c.in-Notes.is)
+          ∙ refused_bind _ _ _ _ _ (sym c.add_centre.ensures.0 ∙ ap (placed _ _) c.in-Refused-add_centre.is))),
       tt,
     )
 
 pub returns-in-Refused-add_mirrored : goal.returns-in-Refused-add_mirrored
 unfolding mirror_from
 returns-in-Refused-add_mirrored c =
-    let f = c in
-    let g = f in (
+    (
       sym
-          (rw (← g.random_start-low.ensures)
-          (found_bind _ _ _ _ _ (got (goal.at.returns-in-Refused-add_mirrored c).In-Given) ∙ refused_bind _ _ _ _ _ (sym f.add_mirrored.ensures.0 ∙ ap (placed _ _) c.in-Refused-add_mirrored.is))),
+          (rw (← c.random_start-low.ensures)
+          (found_bind _ _ _ _ _ (got (goal.at.returns-in-Refused-add_mirrored c).In-Given) ∙ refused_bind _ _ _ _ _ (sym c.add_mirrored.ensures.0 ∙ ap (placed _ _) c.in-Refused-add_mirrored.is))),
       tt,
     )
 

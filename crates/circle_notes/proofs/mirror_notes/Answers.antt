@@ -48,40 +48,34 @@ begun : (c : In-Value)
     → let m = c in let a = m.args in
     on (mirror_notes a.g a.chances) a.d ≡ on (rest a.g m.mirrored_chances-m.result c.in-Value.v) c.in-Value.next
 begun c =
-    let m = c in
-    let a = m.args in
+    let a = c.args in
     ap (λ (r : ObjectRule (Pattern Note)). on r a.d) (named a.g a.chances) ∙ found_bind value _ _ _ _ (got c)
-    ∙ ap (λ (k : MirrorChances). on (rest a.g k c.in-Value.v) c.in-Value.next) (sym m.mirrored_chances-m.ensures)
+    ∙ ap (λ (k : MirrorChances). on (rest a.g k c.in-Value.v) c.in-Value.next) (sym c.mirrored_chances-m.ensures)
 
 pub mirror_from-requires : goal.mirror_from-requires
 mirror_from-requires c =
-    let m = c in
-    (m.requires.0, m.requires.1, few (goal.at.mirror_from-requires c).In-Given, m.requires.2)
+    (c.requires.0, c.requires.1, few (goal.at.mirror_from-requires c).In-Given, c.requires.2)
 
 pub returns-in-Given : goal.returns-in-Given
 unfolding rest round of_bits
 returns-in-Given c =
-    let e = c in
-    let n = e in
-    let t = n in
     let k = c.mirror_from.ensures in (
       k.0
           ∙ sym
           (begun (goal.at.returns-in-Given c).In-Value
-          ∙ rw (← t.clamp-p2.ensures, ← t.clamp-p3.ensures)
-          (found_bind _ _ _ _ _ (sym n.get_random_note_count.ensures ∙ ap number e.in-Given.is)
-          ∙ rw (← n.next_double-val.ensures, ← e.at_centre-middle.ensures))),
+          ∙ rw (← c.clamp-p2.ensures, ← c.clamp-p3.ensures)
+          (found_bind _ _ _ _ _ (sym c.get_random_note_count.ensures ∙ ap number c.in-Given.is)
+          ∙ rw (← c.next_double-val.ensures, ← c.at_centre-middle.ensures))),
       k.1,
     )
 
 pub returns-in-Refused : goal.returns-in-Refused
 unfolding rest round of_bits
 returns-in-Refused c =
-    let n = c in
-    let t = n in (
+    (
       sym
           (begun (goal.at.returns-in-Refused c).In-Value
-          ∙ rw (← t.clamp-p2.ensures, ← t.clamp-p3.ensures)
-          (refused_bind _ _ _ _ _ (sym n.get_random_note_count.ensures ∙ ap number c.in-Refused.is))),
+          ∙ rw (← c.clamp-p2.ensures, ← c.clamp-p3.ensures)
+          (refused_bind _ _ _ _ _ (sym c.get_random_note_count.ensures ∙ ap number c.in-Refused.is))),
       tt,
     )

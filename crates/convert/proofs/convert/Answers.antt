@@ -1,6 +1,7 @@
 -- `convert::convert` meets its contract. Assumes nothing.
 use mathlib.Core.Path.{sym, ◌∙◌}
-use Rattle.record.specs.Laws.Known.{known, checked_refused}
+use Rattle.record.specs.Laws.Known.{checked_refused}
+use Rattle.record.proofs.Laws.Known.{known}
 use Rattle.convert.proofs.Jobs.{refused_job}
 use Rattle.convert.proofs.convert.Goals as goal
 
@@ -11,7 +12,6 @@ convert_song-requires c =
 
 pub returns-in-Refused : goal.returns-in-Refused
 returns-in-Refused c =
-    let s = c in
     let v = c.in-Refused in
-    let e = checked_refused s.args.bytes.now v.n (sym c.check_record.ensures ∙ v.is) in
-    c.refused.ensures ∙ refused_job s.args.bytes.now s.args.chart.now s.args.allowance v.n e
+    let e = checked_refused c.args.bytes.now v.n (sym c.check_record.ensures ∙ v.is) in
+    c.refused.ensures ∙ refused_job c.args.bytes.now c.args.chart.now c.args.allowance v.n e

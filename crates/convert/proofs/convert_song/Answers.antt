@@ -23,8 +23,7 @@ use Rattle.convert.proofs.convert_song.Goals.{In-Made, In-Refused}
 
 pub returns-then-chart-lt8 : goal.returns-then-chart-lt8
 returns-then-chart-lt8 c =
-    let s = c in
-    c.refused.ensures ∙ short s.args.bytes.now s.args.chart.now s.args.allowance s.requires.parsed c.if-chart-lt8.true
+    c.refused.ensures ∙ short c.args.bytes.now c.args.chart.now c.args.allowance c.requires.parsed c.if-chart-lt8.true
 
 pub seed-requires : goal.seed-requires
 seed-requires c = settings_accepted c.args.bytes.now c.args.m c.requires
@@ -42,49 +41,37 @@ made : (c : In-Made)
     → Written (song_rule c.args.bytes.now (length c.args.chart.now) (tallied c.args.allowance 0 (seeded (seed (song_of c.args.bytes.now).settings))))
     c.args.chart.now c.walk_part.new.chart c.in-Made.notes c.in-Made.e
 made c =
-    let s = c in
-    subst (λ (r : WalkEnd). Ends (song_rule s.args.bytes.now (length s.args.chart.now) (tallied s.args.allowance 0 (seeded (seed (song_of s.args.bytes.now).settings))))
-    s.args.chart.now c.walk_part.new.chart r) c.in-Made.is (ended _ _ _ _ _ _ (begins s.args.bytes.now _ _ _ _ c.from_seed-random.ensures c.seed.ensures s.requires.settings) c.walk_part.ensures)
+    subst (λ (r : WalkEnd). Ends (song_rule c.args.bytes.now (length c.args.chart.now) (tallied c.args.allowance 0 (seeded (seed (song_of c.args.bytes.now).settings))))
+    c.args.chart.now c.walk_part.new.chart r) c.in-Made.is (ended _ _ _ _ _ _ (begins c.args.bytes.now _ _ _ _ c.from_seed-random.ensures c.seed.ensures c.requires.settings) c.walk_part.ensures)
 
 stops : (c : In-Refused)
     → song_rule c.args.bytes.now (length c.args.chart.now) (tallied c.args.allowance 0 (seeded (seed (song_of c.args.bytes.now).settings)))
     ≡ refused (stop c.in-Refused.i c.in-Refused.n) c.in-Refused.e
 stops c =
-    let s = c in
-    subst (λ (r : WalkEnd). Ends (song_rule s.args.bytes.now (length s.args.chart.now) (tallied s.args.allowance 0 (seeded (seed (song_of s.args.bytes.now).settings))))
-    s.args.chart.now c.walk_part.new.chart r) c.in-Refused.is (ended _ _ _ _ _ _ (begins s.args.bytes.now _ _ _ _ c.from_seed-random.ensures c.seed.ensures s.requires.settings) c.walk_part.ensures)
+    subst (λ (r : WalkEnd). Ends (song_rule c.args.bytes.now (length c.args.chart.now) (tallied c.args.allowance 0 (seeded (seed (song_of c.args.bytes.now).settings))))
+    c.args.chart.now c.walk_part.new.chart r) c.in-Refused.is (ended _ _ _ _ _ _ (begins c.args.bytes.now _ _ _ _ c.from_seed-random.ensures c.seed.ensures c.requires.settings) c.walk_part.ensures)
 
 pub overflow_sub-allowance : goal.overflow_sub-allowance
 overflow_sub-allowance c =
-    let k = c in
-    let s = k in
-    found_left s.args.bytes.now s.args.chart.now s.args.allowance s.requires.parsed (length s.args.chart.now) (made (goal.at.overflow_sub-allowance c).In-Made).nss k.in-Made.e (made (goal.at.overflow_sub-allowance c).In-Made).says
+    found_left c.args.bytes.now c.args.chart.now c.args.allowance c.requires.parsed (length c.args.chart.now) (made (goal.at.overflow_sub-allowance c).In-Made).nss c.in-Made.e (made (goal.at.overflow_sub-allowance c).In-Made).says
 
 pub finish-length-requires : goal.finish-length-requires
 finish-length-requires c =
-    let k = c in
-    let s = k in
-    let columns = ap (λ (g : Song). g.columns) k.song_of-g.ensures in
-    (omega (arith, columns, (deck s.args.bytes.now s.args.m s.requires).1), (omega (arith, (made (goal.at.finish-length-requires c).In-Made).room), made_holds s.args.bytes.now s.args.chart.now s.args.allowance s.requires.parsed (omega (arith, k.if-chart-lt8.false)) k.walk_part.new.chart k.in-Made.notes k.in-Made.e (made (goal.at.finish-length-requires c).In-Made)))
+    let columns = ap (λ (g : Song). g.columns) c.song_of-g.ensures in
+    (omega (arith, columns, (deck c.args.bytes.now c.args.m c.requires).1), (omega (arith, (made (goal.at.finish-length-requires c).In-Made).room), made_holds c.args.bytes.now c.args.chart.now c.args.allowance c.requires.parsed (omega (arith, c.if-chart-lt8.false)) c.walk_part.new.chart c.in-Made.notes c.in-Made.e (made (goal.at.finish-length-requires c).In-Made)))
 
 pub overflow_sub-allowance-in-Refused : goal.overflow_sub-allowance-in-Refused
 overflow_sub-allowance-in-Refused c =
-    let k = c in
-    let s = k in
-    refused_left s.args.bytes.now s.args.chart.now s.args.allowance s.requires.parsed (length s.args.chart.now) _ k.in-Refused.e (stops (goal.at.overflow_sub-allowance-in-Refused c).In-Refused)
+    refused_left c.args.bytes.now c.args.chart.now c.args.allowance c.requires.parsed (length c.args.chart.now) _ c.in-Refused.e (stops (goal.at.overflow_sub-allowance-in-Refused c).In-Refused)
 
 pub returns-in-Made : goal.returns-in-Made
 returns-in-Made c =
     let f = c.finish-length in
-    let k = c in
-    let s = k in
-    made_job s.args.bytes.now s.args.chart.now s.args.allowance s.requires.parsed (omega (arith, k.if-chart-lt8.false)) k.walk_part.new.chart k.in-Made.notes k.in-Made.e
-    (made (goal.at.returns-in-Made c).In-Made) k.song_of-g.result.columns f.result f.new.chart (ap (λ (g : Song). g.columns) k.song_of-g.ensures) f.ensures.value f.ensures.chart_after
+    made_job c.args.bytes.now c.args.chart.now c.args.allowance c.requires.parsed (omega (arith, c.if-chart-lt8.false)) c.walk_part.new.chart c.in-Made.notes c.in-Made.e
+    (made (goal.at.returns-in-Made c).In-Made) c.song_of-g.result.columns f.result f.new.chart (ap (λ (g : Song). g.columns) c.song_of-g.ensures) f.ensures.value f.ensures.chart_after
 
 pub returns-in-Refused : goal.returns-in-Refused
 returns-in-Refused c =
-    let k = c in
-    let s = k in
     c.refused-in-Refused.ensures
-    ∙ only_length k.in-Refused.n k.in-Refused.i (s.args.allowance - k.in-Refused.e.tally.left) k.walk_part.new.chart s.args.chart.now (omega arith)
-    ∙ stopped_job s.args.bytes.now s.args.chart.now s.args.allowance s.requires.parsed (omega (arith, k.if-chart-lt8.false)) k.in-Refused.n k.in-Refused.i k.in-Refused.e (stops (goal.at.returns-in-Refused c).In-Refused)
+    ∙ only_length c.in-Refused.n c.in-Refused.i (c.args.allowance - c.in-Refused.e.tally.left) c.walk_part.new.chart c.args.chart.now (omega arith)
+    ∙ stopped_job c.args.bytes.now c.args.chart.now c.args.allowance c.requires.parsed (omega (arith, c.if-chart-lt8.false)) c.in-Refused.n c.in-Refused.i c.in-Refused.e (stops (goal.at.returns-in-Refused c).In-Refused)

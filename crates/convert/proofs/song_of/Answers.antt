@@ -11,8 +11,7 @@ overflow_cast-long c =
 
 pub returns : goal.returns
 returns c =
-    let s = c in
-    let k = s.requires in
-    let bytes = s.args.bytes.now in
-    let columns = columns_are bytes s.args.m k c.columns_of-columns.result c.columns_of-columns.ensures in
-    rw (columns, difficulty_is bytes s.args.m k _ _ c.total_break_time-breaks.ensures c.conversion_difficulty-difficulty.ensures, k.settings)
+    let k = c.requires in
+    let bytes = c.args.bytes.now in
+    let columns = columns_are bytes c.args.m k c.columns_of-columns.result c.columns_of-columns.ensures in
+    rw (columns, difficulty_is bytes c.args.m k _ _ c.total_break_time-breaks.ensures c.conversion_difficulty-difficulty.ensures, k.settings)

@@ -15,16 +15,14 @@ use Rattle.convert.proofs.walk_part.Goals.{Else-count-eq0}
 pub walk_objects-requires : goal.walk_objects-requires
 unfolding objects entries
 walk_objects-requires c =
-    let s = c in
-    let none = c.without_points-none.ensures ∙ ap without_points s.requires.1 in
-    (given_none s.args.bytes.now s.args.m s.requires.0 _ none, tt, omega arith, omega arith, omega (arith, s.requires.2), lit≤ tt, lit≤ tt)
+    let none = c.without_points-none.ensures ∙ ap without_points c.requires.1 in
+    (given_none c.args.bytes.now c.args.m c.requires.0 _ none, tt, omega arith, omega arith, omega (arith, c.requires.2), lit≤ tt, lit≤ tt)
 
 pub returns-then-count-eq0 : goal.returns-then-count-eq0
 returns-then-count-eq0 c =
-    let s = c in
     let walked = c.walk_objects in
-    let none = c.without_points-none.ensures ∙ ap without_points s.requires.1 in
-    played_none s.args.bytes.now s.args.m s.requires.0 (sym c.if-count-eq0.true) _ none s.args.chart.now walked.new.chart s.args.d walked.result walked.ensures
+    let none = c.without_points-none.ensures ∙ ap without_points c.requires.1 in
+    played_none c.args.bytes.now c.args.m c.requires.0 (sym c.if-count-eq0.true) _ none c.args.chart.now walked.new.chart c.args.d walked.result walked.ensures
 
 some : (n : ℕ) → (n ≡ 0 → ⊥) → 0 < n
 some n h = omega arith
@@ -44,20 +42,18 @@ slice_bounds-walk_objects-count-3 c = objects_in (goal.at.slice_bounds-walk_obje
 
 pub walk_objects-requires-2 : goal.walk_objects-requires-2
 walk_objects-requires-2 c =
-    let s = c in
-    let k = s.requires.0 in
-    let bytes = s.args.bytes.now in (
-      given bytes s.args.m k _ s.requires.1,
-      objects_are_in bytes s.args.m k,
+    let k = c.requires.0 in
+    let bytes = c.args.bytes.now in (
+      given bytes c.args.m k _ c.requires.1,
+      objects_are_in bytes c.args.m k,
       omega arith,
       omega (arith, k.small.objects_le),
-      omega (arith, s.requires.2),
+      omega (arith, c.requires.2),
       lit≤ tt,
       lit≤ tt,
     )
 
 pub returns : goal.returns
 returns c =
-    let s = c in
     let walked = c.walk_objects-2 in
-    played s.args.bytes.now s.args.m s.requires.0 _ s.requires.1 s.args.chart.now walked.new.chart s.args.d walked.result walked.ensures
+    played c.args.bytes.now c.args.m c.requires.0 _ c.requires.1 c.args.chart.now walked.new.chart c.args.d walked.result walked.ensures

@@ -20,25 +20,22 @@ get_random_column-requires c = (low (goal.at.get_random_column-requires c).After
 
 -- what the draw gave, in the rule's words
 got : (c : In-Given)
-    → let k = c in let a = k.args in
-    on (get_random_column k.random_start-low.result a.columns) a.d ≡ found c.in-Given.c c.in-Given.drawn
+    → let a = c.args in
+    on (get_random_column c.random_start-low.result a.columns) a.d ≡ found c.in-Given.c c.in-Given.drawn
 got c = sym c.get_random_column.ensures ∙ ap number c.in-Given.is
 
 pub find_available_column-requires : goal.find_available_column-requires
 find_available_column-requires c =
-    let k = c in
-    let p = k.requires in
+    let p = c.requires in
     (drawn_lt _ _ (low (goal.at.find_available_column-requires c).After-random_start-low) _ _ _ (got (goal.at.find_available_column-requires c).In-Given), p.1, low (goal.at.find_available_column-requires c).After-random_start-low, p.1)
 
 pub returns-in-Given : goal.returns-in-Given
 unfolding end_column
 returns-in-Given c =
-    let k = c in
     c.find_available_column.ensures
-    ∙ sym (rw (← k.random_start-low.ensures) (found_bind _ _ _ _ _ (got (goal.at.returns-in-Given c).In-Given) ∙ rw (← k.barred-taken.ensures)))
+    ∙ sym (rw (← c.random_start-low.ensures) (found_bind _ _ _ _ _ (got (goal.at.returns-in-Given c).In-Given) ∙ rw (← c.barred-taken.ensures)))
 
 pub returns-in-Refused : goal.returns-in-Refused
 unfolding end_column
 returns-in-Refused c =
-    let k = c in
-    sym (rw (← k.random_start-low.ensures) (refused_bind _ _ _ _ _ (sym c.get_random_column.ensures ∙ ap number c.in-Refused.is)))
+    sym (rw (← c.random_start-low.ensures) (refused_bind _ _ _ _ _ (sym c.get_random_column.ensures ∙ ap number c.in-Refused.is)))

@@ -13,36 +13,33 @@ use Rattle.end_time_object.proofs.generate_by_value.Goals.{In-Given}
 
 -- what the search gave, in the rule's words
 got : (c : In-Given)
-    → let k = c in let a = k.args in
-    on (note_column a.v a.columns a.o k.lasting-lasts.result) a.d ≡ found c.in-Given.c c.in-Given.next
+    → let a = c.args in
+    on (note_column a.v a.columns a.o c.lasting-lasts.result) a.d ≡ found c.in-Given.c c.in-Given.next
 got c = sym c.note_column.ensures ∙ ap number c.in-Given.is
 
 pub returns-then-columns-c : goal.returns-then-columns-c
 unfolding generate
 returns-then-columns-c c =
-    let k = c in
     record {
-      says = sym (rw (← k.lasting-lasts.ensures) (found_bind _ _ _ _ _ (got (goal.at.returns-then-columns-c c).In-Given) ∙ refused_bind _ _ _ _ _ (add_off _ _ _ _ _ c.if-columns-c.true)));
+      says = sym (rw (← c.lasting-lasts.ensures) (found_bind _ _ _ _ _ (got (goal.at.returns-then-columns-c c).In-Given) ∙ refused_bind _ _ _ _ _ (add_off _ _ _ _ _ c.if-columns-c.true)));
       few = omega arith;
     }
 
 pub returns-else-columns-c : goal.returns-else-columns-c
 unfolding generate put empty play
 returns-else-columns-c c =
-    let k = c in
-    let a = k.args in
+    let a = c.args in
     record {
       says =
           rw (one_note a.o a.duration a.words.now c.in-Given.c (omega arith) (omega arith))
-          (sym (rw (← k.lasting-lasts.ensures) (found_bind _ _ _ _ _ (got (goal.at.returns-else-columns-c c).In-Given) ∙ found_bind _ _ _ _ _ (add_on _ _ _ _ _ c.if-columns-c.false))));
+          (sym (rw (← c.lasting-lasts.ensures) (found_bind _ _ _ _ _ (got (goal.at.returns-else-columns-c c).In-Given) ∙ found_bind _ _ _ _ _ (add_on _ _ _ _ _ c.if-columns-c.false))));
       few = omega arith;
     }
 
 pub returns-in-Refused : goal.returns-in-Refused
 unfolding generate
 returns-in-Refused c =
-    let k = c in
     record {
-      says = sym (rw (← k.lasting-lasts.ensures) (refused_bind _ _ _ _ _ (sym c.note_column.ensures ∙ ap number c.in-Refused.is)));
+      says = sym (rw (← c.lasting-lasts.ensures) (refused_bind _ _ _ _ _ (sym c.note_column.ensures ∙ ap number c.in-Refused.is)));
       few = omega arith;
     }

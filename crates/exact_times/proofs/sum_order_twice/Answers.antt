@@ -14,4 +14,4 @@ pub sum_to-requires : goal.sum_to-requires
 sum_to-requires c = (search rules, search rules, rw (c.digits.ensures, c.power.ensures) (number_twice _))
 
 pub returns : goal.returns
-returns c = let s = c in rw (parts_twice _ s.requires.2, ← c.digits.ensures, ← c.power.ensures) c.sum_to.ensures
+returns c = rw (parts_twice _ c.requires.2, ← c.digits.ensures, ← c.power.ensures) c.sum_to.ensures

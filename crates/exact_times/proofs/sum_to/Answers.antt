@@ -7,4 +7,4 @@ use Rattle.chart.specs.Time.{time}
 use Rattle.exact_times.proofs.sum_to.Goals as goal
 
 pub returns-then-a-b : goal.returns-then-a-b
-returns-then-a-b c = let s = c in c.sum_with.ensures ∙ rw (add_comm (ticks (time s.args.b)))
+returns-then-a-b c = c.sum_with.ensures ∙ rw (add_comm (ticks (time c.args.b)))

@@ -10,33 +10,27 @@ use Rattle.exact_times.specs.Laws.Sums.{below, beyond, short, left_over, power_m
 use Rattle.exact_times.proofs.sum_with.Goals as goal
 
 pub returns-then-e-p : goal.returns-then-e-p
-returns-then-e-p c = let s = c in below _ _ _ _ s.requires.0 s.requires.1 s.requires.2 (search rules)
+returns-then-e-p c = below _ _ _ _ c.requires.0 c.requires.1 c.requires.2 (search rules)
 
 pub returns-then-k-gt1 : goal.returns-then-k-gt1
-returns-then-k-gt1 c = let s = c in beyond _ _ _ _ s.requires.0 s.requires.1 s.requires.2 (omega (arith, c.power-p.ensures))
+returns-then-k-gt1 c = beyond _ _ _ _ c.requires.0 c.requires.1 c.requires.2 (omega (arith, c.power-p.ensures))
 
 pub returns-then-all-first : goal.returns-then-all-first
 returns-then-all-first c =
-    let p = c in
-    let s = p in
-    let k : ℕ = s.args.e - p.power-p.result in
-    let all = shl_exact {a = s.args.m} 53 k 64 s.requires.2.few (search rules) in
-    short _ _ _ _ s.requires.0 s.requires.1 s.requires.2 k (search rules) (rw all at (rw c.digits-first.ensures at c.if-all-first.true))
+    let k : ℕ = c.args.e - c.power-p.result in
+    let all = shl_exact {a = c.args.m} 53 k 64 c.requires.2.few (search rules) in
+    short _ _ _ _ c.requires.0 c.requires.1 c.requires.2 k (search rules) (rw all at (rw c.digits-first.ensures at c.if-all-first.true))
 
 pub overflow_sub-p : goal.overflow_sub-p
 overflow_sub-p c =
-    let p = c in
-    let s = p in
-    rw (c.power.ensures, p.power-p.ensures) (power_mono _ _ s.requires.1)
+    rw (c.power.ensures, c.power-p.ensures) (power_mono _ _ c.requires.1)
 
 pub returns : goal.returns
 returns c =
-    let p = c in
-    let s = p in
-    let k : ℕ = s.args.e - p.power-p.result in
-    let all = shl_exact {a = s.args.m} 53 k 64 s.requires.2.few (search rules) in
+    let k : ℕ = c.args.e - c.power-p.result in
+    let all = shl_exact {a = c.args.m} 53 k 64 c.requires.2.few (search rules) in
     let first = c.digits-first.ensures in
-    let enough = rw (all, first, p.power-p.ensures) at c.if-all-first.false in
+    let enough = rw (all, first, c.power-p.ensures) at c.if-all-first.false in
     c.against.ensures
-    ∙ rw (all, first, c.digits.ensures, c.power.ensures, p.power-p.ensures)
-    (left_over _ _ _ _ s.requires.0 s.requires.1 s.requires.2 (s.args.e - power_of s.args.a) (omega (arith, p.power-p.ensures)) enough)
+    ∙ rw (all, first, c.digits.ensures, c.power.ensures, c.power-p.ensures)
+    (left_over _ _ _ _ c.requires.0 c.requires.1 c.requires.2 (c.args.e - power_of c.args.a) (omega (arith, c.power-p.ensures)) enough)

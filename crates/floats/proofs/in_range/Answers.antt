@@ -16,5 +16,4 @@ float_to_bits-x c = no_nan c.args.x c.if-x.false
 
 pub returns : goal.returns
 returns c =
-    let s = c in
-    c.within_f64.ensures ∙ ap (in_range _ _) (of_bits-to_bits binary64 s.args.x (subst T (sym s.well_formed.0.1) tt))
+    c.within_f64.ensures ∙ ap (in_range _ _) (of_bits-to_bits binary64 c.args.x (subst T (sym c.well_formed.0.1) tt))

@@ -13,14 +13,12 @@ stair_after-s-requires c = omega (arith, subst (AtMost _) c.in-Notes.is c.genera
 pub returns-in-Notes : goal.returns-in-Notes
 unfolding generate pattern play
 returns-in-Notes c =
-    let f = c in
     record {
-      says = sym (found_bind _ _ _ _ _ (sym f.generate_core.ensures.0 ∙ ap (placed _ _) c.in-Notes.is) ∙ rw (← c.stair_after-s.ensures));
-      few = subst (AtMost _) c.in-Notes.is f.generate_core.ensures.1;
+      says = sym (found_bind _ _ _ _ _ (sym c.generate_core.ensures.0 ∙ ap (placed _ _) c.in-Notes.is) ∙ rw (← c.stair_after-s.ensures));
+      few = subst (AtMost _) c.in-Notes.is c.generate_core.ensures.1;
     }
 
 pub returns-in-Refused : goal.returns-in-Refused
 unfolding generate
 returns-in-Refused c =
-    let f = c in
-    record { says = sym (refused_bind _ _ _ _ _ (sym f.generate_core.ensures.0 ∙ ap (placed _ _) c.in-Refused.is)); few = omega arith }
+    record { says = sym (refused_bind _ _ _ _ _ (sym c.generate_core.ensures.0 ∙ ap (placed _ _) c.in-Refused.is)); few = omega arith }

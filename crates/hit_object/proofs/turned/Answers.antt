@@ -5,17 +5,14 @@ use Rattle.hit_object.proofs.turned.Goals as goal
 pub returns-then-at_start : goal.returns-then-at_start
 unfolding turned
 returns-then-at_start c =
-    let k = c in
-    rw (← k.random_start-low.ensures, ← k.has_type-down.ensures, c.if-at_start.true)
+    rw (← c.random_start-low.ensures, ← c.has_type-down.ensures, c.if-at_start.true)
 
 pub returns-then-at_end : goal.returns-then-at_end
 unfolding turned
 returns-then-at_end c =
-    let k = c in
-    rw (← k.random_start-low.ensures, ← k.has_type-down.ensures, ← k.has_type-up.ensures, c.if-at_start.false, c.if-at_end.true)
+    rw (← c.random_start-low.ensures, ← c.has_type-down.ensures, ← c.has_type-up.ensures, c.if-at_start.false, c.if-at_end.true)
 
 pub returns : goal.returns
 unfolding turned
 returns c =
-    let k = c in
-    rw (← k.random_start-low.ensures, ← k.has_type-down.ensures, ← k.has_type-up.ensures, c.if-at_start.false, c.if-at_end.false)
+    rw (← c.random_start-low.ensures, ← c.has_type-down.ensures, ← c.has_type-up.ensures, c.if-at_start.false, c.if-at_end.false)

@@ -24,36 +24,32 @@ note_of-n-requires c = omega (arith, c.requires.notes.size)
 pub put_line-at-requires : goal.put_line-at-requires
 put_line-at-requires c =
     let l = c.loop-i in
-    let s = c in
-    let ns = notes_in s.args.chart.now in
-    let below : l.i < length ns = omega (arith, s.requires.notes.size) in
+    let ns = notes_in c.args.chart.now in
+    let below : l.i < length ns = omega (arith, c.requires.notes.size) in
     let note = c.note_of-n.ensures in (
       record {
-        some_columns = s.requires.notes.some_columns;
-        stands = rw note (standing_at s.args.columns 0 ns s.requires.notes.ok l.i blank below);
-        whole = rw note (whole_at ns s.requires.room.0 l.i blank below);
+        some_columns = c.requires.notes.some_columns;
+        stands = rw note (standing_at c.args.columns 0 ns c.requires.notes.ok l.i blank below);
+        whole = rw note (whole_at ns c.requires.room.0 l.i blank below);
       },
-      rw note (omega (arith, l.invariant.1.0, l.invariant.1.1.next, s.requires.room.1, lines_split s.args.columns ns l.i, lines_next s.args.columns ns l.i below)),
+      rw note (omega (arith, l.invariant.1.0, l.invariant.1.1.next, c.requires.room.1, lines_split c.args.columns ns l.i, lines_next c.args.columns ns l.i below)),
     )
 
 pub loop-i-preserved : goal.loop-i-preserved
 loop-i-preserved c =
-    let put = c in
-    let note = put.note_of-n.ensures in
+    let note = c.note_of-n.ensures in
     let l = c.loop-i in
-    let s = c in
-    let ns = notes_in s.args.chart.now in
-    let below : l.i < length ns = omega (arith, s.requires.notes.size) in
-    let fits : l.at + length (line_text (line_of s.args.columns (get_or ns l.i blank))) ≤ length s.args.s.now =
-    omega (arith, l.invariant.1.1.next, s.requires.room.1, lines_split s.args.columns ns l.i, lines_next s.args.columns ns l.i below) in
-    let line = wrote_next (line_text (line_of s.args.columns (get_or ns l.i blank))) l.invariant.1.1 (put.put_line-at.ensures.s_after ∙ rw note) (put.put_line-at.ensures.value ∙ rw note) (rw (put.put_line-at.ensures.value, note) fits) in
-    (omega arith, (put.put_line-at.auto.s ∙ l.invariant.1.0, rw (lines_more s.args.columns ns l.i below) line))
+    let ns = notes_in c.args.chart.now in
+    let below : l.i < length ns = omega (arith, c.requires.notes.size) in
+    let fits : l.at + length (line_text (line_of c.args.columns (get_or ns l.i blank))) ≤ length c.args.s.now =
+    omega (arith, l.invariant.1.1.next, c.requires.room.1, lines_split c.args.columns ns l.i, lines_next c.args.columns ns l.i below) in
+    let line = wrote_next (line_text (line_of c.args.columns (get_or ns l.i blank))) l.invariant.1.1 (c.put_line-at.ensures.s_after ∙ rw note) (c.put_line-at.ensures.value ∙ rw note) (rw (c.put_line-at.ensures.value, note) fits) in
+    (omega arith, (c.put_line-at.auto.s ∙ l.invariant.1.0, rw (lines_more c.args.columns ns l.i below) line))
 
 pub returns : goal.returns
 returns c =
     let l = c.loop-i in
-    let s = c in
-    let ns = notes_in s.args.chart.now in
-    let all : take l.i ns ≡ ns = take_all l.i ns (omega (arith, s.requires.notes.size)) in
+    let ns = notes_in c.args.chart.now in
+    let all : take l.i ns ≡ ns = take_all l.i ns (omega (arith, c.requires.notes.size)) in
     let lines = rw all at l.invariant.1.1 in
     lines.bytes

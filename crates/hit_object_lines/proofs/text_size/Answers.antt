@@ -19,30 +19,27 @@ note_of-n-requires c = omega (arith, c.requires.size)
 pub is_whole-requires : goal.is_whole-requires
 is_whole-requires c =
     let l = c.loop-i in
-    let s = c in
-    let ns = notes_in s.args.chart.now in
-    let below : l.i < length ns = omega (arith, s.requires.size) in
-    rw c.note_of-n.ensures (standing_at s.args.columns 0 ns s.requires.ok l.i blank below)
+    let ns = notes_in c.args.chart.now in
+    let below : l.i < length ns = omega (arith, c.requires.size) in
+    rw c.note_of-n.ensures (standing_at c.args.columns 0 ns c.requires.ok l.i blank below)
 
 pub returns-then-not-is_whole : goal.returns-then-not-is_whole
 unfolding size_of
 returns-then-not-is_whole c =
     let l = c.loop-i in
-    let s = c in
-    let ns = notes_in s.args.chart.now in
-    let below : l.i < length ns = omega (arith, s.requires.size) in
+    let ns = notes_in c.args.chart.now in
+    let below : l.i < length ns = omega (arith, c.requires.size) in
     let bad = rw c.note_of-n.ensures at (sym c.is_whole.ensures ∙ c.if-not-is_whole.true) in
     rw (l.invariant.1.1.0 ∙ whole_fails ns l.i below bad)
 
 pub line_size-size-requires : goal.line_size-size-requires
 line_size-size-requires c =
     let l = c.loop-i in
-    let s = c in
-    let ns = notes_in s.args.chart.now in
-    let below : l.i < length ns = omega (arith, s.requires.size) in
+    let ns = notes_in c.args.chart.now in
+    let below : l.i < length ns = omega (arith, c.requires.size) in
     record {
-      some_columns = s.requires.some_columns;
-      stands = rw c.note_of-n.ensures (standing_at s.args.columns 0 ns s.requires.ok l.i blank below);
+      some_columns = c.requires.some_columns;
+      stands = rw c.note_of-n.ensures (standing_at c.args.columns 0 ns c.requires.ok l.i blank below);
       whole = sym c.is_whole.ensures ∙ c.if-not-is_whole.false;
     }
 
@@ -52,9 +49,8 @@ overflow_add-size c = omega (arith, c.line_size-size.ensures.1)
 pub loop-i-preserved : goal.loop-i-preserved
 loop-i-preserved c =
     let l = c.loop-i in
-    let s = c in
-    let ns = notes_in s.args.chart.now in
-    let below : l.i < length ns = omega (arith, s.requires.size) in
+    let ns = notes_in c.args.chart.now in
+    let below : l.i < length ns = omega (arith, c.requires.size) in
     let note = c.note_of-n.ensures in
     let good = rw note at (sym c.is_whole.ensures ∙ c.if-not-is_whole.false) in
     let size = rw note at c.line_size-size.ensures.0 in (
@@ -63,7 +59,7 @@ loop-i-preserved c =
         omega (arith, c.line_size-size.ensures.1),
         (
           l.invariant.1.1.0 ∙ whole_next ns l.i below good,
-          omega (arith, l.invariant.1.1.1, lines_next s.args.columns ns l.i below, size),
+          omega (arith, l.invariant.1.1.1, lines_next c.args.columns ns l.i below, size),
         ),
       ),
     )
@@ -72,8 +68,7 @@ pub returns : goal.returns
 unfolding size_of
 returns c =
     let l = c.loop-i in
-    let s = c in
-    let ns = notes_in s.args.chart.now in
-    let done : length ns ≤ l.i = omega (arith, s.requires.size) in
-    let size : length (chart_lines s.args.columns ns) ≡ l.size = l.invariant.1.1.1 ∙ rw (lines_all s.args.columns ns l.i done) (omega arith) in
-    rw (l.invariant.1.1.0 ∙ whole_all s.args.columns ns l.i done, size)
+    let ns = notes_in c.args.chart.now in
+    let done : length ns ≤ l.i = omega (arith, c.requires.size) in
+    let size : length (chart_lines c.args.columns ns) ≡ l.size = l.invariant.1.1.1 ∙ rw (lines_all c.args.columns ns l.i done) (omega arith) in
+    rw (l.invariant.1.1.0 ∙ whole_all c.args.columns ns l.i done, size)

@@ -7,29 +7,22 @@ use Rattle.hit_object_lines.proofs.write_lines.Goals as goal
 
 pub overflow_cast-columns : goal.overflow_cast-columns
 overflow_cast-columns c =
-    let k = c in
-    let s = k in
-    let n = k.in-Chart in
-    let is = read_notes_law s.args.chart.now s.args.text.now n.version n.columns n.notes n.draws (sym (ap meaning k.in-Chart.is) ∙ k.read.ensures) in
+    let n = c.in-Chart in
+    let is = read_notes_law c.args.chart.now c.args.text.now n.version n.columns n.notes n.draws (sym (ap meaning c.in-Chart.is) ∙ c.read.ensures) in
     omega (arith, is.1.0)
 
 pub write_notes-requires : goal.write_notes-requires
 write_notes-requires c =
-    let k = c in
-    let s = k in
-    let n = k.in-Chart in
-    let is = read_notes_law s.args.chart.now s.args.text.now n.version n.columns n.notes n.draws (sym (ap meaning k.in-Chart.is) ∙ k.read.ensures) in
+    let n = c.in-Chart in
+    let is = read_notes_law c.args.chart.now c.args.text.now n.version n.columns n.notes n.draws (sym (ap meaning c.in-Chart.is) ∙ c.read.ensures) in
     is.0
 
 pub returns-in-Chart : goal.returns-in-Chart
 returns-in-Chart c =
-    let k = c in
-    let s = k in
-    let n = k.in-Chart in
-    let is = read_notes_law s.args.chart.now s.args.text.now n.version n.columns n.notes n.draws (sym (ap meaning k.in-Chart.is) ∙ k.read.ensures) in
+    let n = c.in-Chart in
+    let is = read_notes_law c.args.chart.now c.args.text.now n.version n.columns n.notes n.draws (sym (ap meaning c.in-Chart.is) ∙ c.read.ensures) in
     rw is.1.1 c.write_notes.ensures
 
 pub returns-in-Refused : goal.returns-in-Refused
 returns-in-Refused c =
-    let s = c in
-    rw (read_refused s.args.chart.now s.args.text.now _ (sym (ap meaning c.in-Refused.is) ∙ c.read.ensures)) (record { result_value = refl; text_after = refl })
+    rw (read_refused c.args.chart.now c.args.text.now _ (sym (ap meaning c.in-Refused.is) ∙ c.read.ensures)) (record { result_value = refl; text_after = refl })

@@ -8,26 +8,20 @@ use Rattle.hit_object_lines.proofs.write_notes.Goals as goal
 
 pub returns-then-size-text : goal.returns-then-size-text
 returns-then-size-text c =
-    let s = c in
-    let known = size_some _ (notes_in s.args.chart.now) s.args.text.now c.in-Bytes.size (sym (ap size_told c.in-Bytes.is) ∙ c.text_size.ensures) in
-    rw (no_room s.args.columns (notes_in s.args.chart.now) s.args.text.now known.0 (omega (arith, known.1))) (record { result_value = refl; text_after = refl })
+    let known = size_some _ (notes_in c.args.chart.now) c.args.text.now c.in-Bytes.size (sym (ap size_told c.in-Bytes.is) ∙ c.text_size.ensures) in
+    rw (no_room c.args.columns (notes_in c.args.chart.now) c.args.text.now known.0 (omega (arith, known.1))) (record { result_value = refl; text_after = refl })
 
 pub put_lines-requires : goal.put_lines-requires
 put_lines-requires c =
-    let s = c in
-    let k = c in
-    let known = size_some _ (notes_in s.args.chart.now) s.args.text.now k.in-Bytes.size (sym (ap size_told k.in-Bytes.is) ∙ k.text_size.ensures) in
-    record { notes = s.requires; room = (known.0, omega (arith, known.1)) }
+    let known = size_some _ (notes_in c.args.chart.now) c.args.text.now c.in-Bytes.size (sym (ap size_told c.in-Bytes.is) ∙ c.text_size.ensures) in
+    record { notes = c.requires; room = (known.0, omega (arith, known.1)) }
 
 pub returns-else-size-text : goal.returns-else-size-text
 returns-else-size-text c =
-    let s = c in
-    let k = c in
-    let known = size_some _ (notes_in s.args.chart.now) s.args.text.now k.in-Bytes.size (sym (ap size_told k.in-Bytes.is) ∙ k.text_size.ensures) in
-    rw (room s.args.columns (notes_in s.args.chart.now) s.args.text.now known.0 (omega (arith, known.1)), known.1) (record { result_value = refl; text_after = c.put_lines.ensures })
+    let known = size_some _ (notes_in c.args.chart.now) c.args.text.now c.in-Bytes.size (sym (ap size_told c.in-Bytes.is) ∙ c.text_size.ensures) in
+    rw (room c.args.columns (notes_in c.args.chart.now) c.args.text.now known.0 (omega (arith, known.1)), known.1) (record { result_value = refl; text_after = c.put_lines.ensures })
 
 pub returns-in-NotWhole : goal.returns-in-NotWhole
 returns-in-NotWhole c =
-    let s = c in
-    let known = size_none _ (notes_in s.args.chart.now) s.args.text.now (sym (ap size_told c.in-NotWhole.is) ∙ c.text_size.ensures) in
-    rw (not_whole_law s.args.columns (notes_in s.args.chart.now) s.args.text.now known) (record { result_value = refl; text_after = refl })
+    let known = size_none _ (notes_in c.args.chart.now) c.args.text.now (sym (ap size_told c.in-NotWhole.is) ∙ c.text_size.ensures) in
+    rw (not_whole_law c.args.columns (notes_in c.args.chart.now) c.args.text.now known) (record { result_value = refl; text_after = refl })

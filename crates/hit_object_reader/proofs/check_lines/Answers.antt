@@ -20,14 +20,13 @@ loop-at-init c = (omega arith, (omega arith, (omega arith, (omega arith, rw sub-
 
 pub returns-then-count-eq-MOST_IN_CHART : goal.returns-then-count-eq-MOST_IN_CHART
 returns-then-count-eq-MOST_IN_CHART c =
-    let b = c in
-    let s = b.args.s.now in
+    let s = c.args.s.now in
     let l = c.loop-at in
     let below : l.at < length s = omega arith in
     let one : length s - l.count ≡ suc (length s - (l.count + 1)) = omega arith in
-    let all = count_first b.args.columns b.requires s ∙ l.invariant.1.1.1.1 ∙ ap (λ (k : ℕ). count_from (rank l.last) l.count (notes_on k b.args.columns (drop l.at s))) one in
+    let all = count_first c.args.columns c.requires s ∙ l.invariant.1.1.1.1 ∙ ap (λ (k : ℕ). count_from (rank l.last) l.count (notes_on k c.args.columns (drop l.at s))) one in
     let most : l.count ≡ most_in_chart = c.if-count-eq-MOST_IN_CHART.true in
-    sym (all ∙ rw most (count_full (rank l.last) b.args.columns (length s - (most_in_chart + 1)) l.at s below))
+    sym (all ∙ rw most (count_full (rank l.last) c.args.columns (length s - (most_in_chart + 1)) l.at s below))
 
 pub row_at-requires : goal.row_at-requires
 row_at-requires c = (c.requires, omega arith)
@@ -35,78 +34,72 @@ row_at-requires c = (c.requires, omega arith)
 pub returns-in_default : goal.returns-in_default
 unfolding count_from
 returns-in_default c =
-    let b = c in
-    let s = b.args.s.now in
+    let s = c.args.s.now in
     let l = c.loop-at in
     let below : l.at < length s = omega arith in
     let one : length s - l.count ≡ suc (length s - (l.count + 1)) = omega arith in
-    let all = count_first b.args.columns b.requires s ∙ l.invariant.1.1.1.1 ∙ ap (λ (k : ℕ). count_from (rank l.last) l.count (notes_on k b.args.columns (drop l.at s))) one in
+    let all = count_first c.args.columns c.requires s ∙ l.invariant.1.1.1.1 ∙ ap (λ (k : ℕ). count_from (rank l.last) l.count (notes_on k c.args.columns (drop l.at s))) one in
     let bad = sym c.row_at.ensures.result_value ∙ ap (row_told s) c.in_default.is in
-    sym (all ∙ ap (count_from (rank l.last) l.count) (text_none b.args.columns s (length s - (l.count + 1)) l.at below bad))
+    sym (all ∙ ap (count_from (rank l.last) l.count) (text_none c.args.columns s (length s - (l.count + 1)) l.at below bad))
 
 pub precedes-requires : goal.precedes-requires
 precedes-requires c =
-    let b = c in
-    let s = b.args.s.now in
+    let s = c.args.s.now in
     let l = c.loop-at in
     let g = c.in-Note in
     let m = c.row_at in
-    let known = got (row_told s) (row_in (length s) l.at b.args.columns) (R.Note g.note g.next) (note_on b.args.columns (drop l.at s)) g.is m.ensures.result_value m.ensures.row_in in
-    (omega (arith, known.1.0.0, b.requires.high), l.invariant.1.1.1.0)
+    let known = got (row_told s) (row_in (length s) l.at c.args.columns) (R.Note g.note g.next) (note_on c.args.columns (drop l.at s)) g.is m.ensures.result_value m.ensures.row_in in
+    (omega (arith, known.1.0.0, c.requires.high), l.invariant.1.1.1.0)
 
 pub returns-then-precedes : goal.returns-then-precedes
 returns-then-precedes c =
-    let b = c in
-    let s = b.args.s.now in
+    let s = c.args.s.now in
     let l = c.loop-at in
     let below : l.at < length s = omega arith in
     let one : length s - l.count ≡ suc (length s - (l.count + 1)) = omega arith in
-    let all = count_first b.args.columns b.requires s ∙ l.invariant.1.1.1.1 ∙ ap (λ (k : ℕ). count_from (rank l.last) l.count (notes_on k b.args.columns (drop l.at s))) one in
+    let all = count_first c.args.columns c.requires s ∙ l.invariant.1.1.1.1 ∙ ap (λ (k : ℕ). count_from (rank l.last) l.count (notes_on k c.args.columns (drop l.at s))) one in
     let g = c.in-Note in
     let m = c.row_at in
-    let known = got (row_told s) (row_in (length s) l.at b.args.columns) (R.Note g.note g.next) (note_on b.args.columns (drop l.at s)) g.is m.ensures.result_value m.ensures.row_in in
-    let rest = notes_on (length s - (l.count + 1)) b.args.columns (drop g.next s) in
-    let next = text_next b.args.columns s (length s - (l.count + 1)) l.at below g.note (drop g.next s) known.0 in
+    let known = got (row_told s) (row_in (length s) l.at c.args.columns) (R.Note g.note g.next) (note_on c.args.columns (drop l.at s)) g.is m.ensures.result_value m.ensures.row_in in
+    let rest = notes_on (length s - (l.count + 1)) c.args.columns (drop g.next s) in
+    let next = text_next c.args.columns s (length s - (l.count + 1)) l.at below g.note (drop g.next s) known.0 in
     sym (all ∙ ap (count_from (rank l.last) l.count) next
     ∙ count_falls (rank l.last) l.count g.note rest (ltb-true _ _ (sym c.precedes.ensures ∙ c.if-precedes.true)))
 
 pub loop-at-smaller : goal.loop-at-smaller
 loop-at-smaller c =
-    let b = c in
-    let s = b.args.s.now in
+    let s = c.args.s.now in
     let l = c.loop-at in
     let below : l.at < length s = omega arith in
     let one : length s - l.count ≡ suc (length s - (l.count + 1)) = omega arith in
-    let all = count_first b.args.columns b.requires s ∙ l.invariant.1.1.1.1 ∙ ap (λ (k : ℕ). count_from (rank l.last) l.count (notes_on k b.args.columns (drop l.at s))) one in
+    let all = count_first c.args.columns c.requires s ∙ l.invariant.1.1.1.1 ∙ ap (λ (k : ℕ). count_from (rank l.last) l.count (notes_on k c.args.columns (drop l.at s))) one in
     let g = c.in-Note in
     let m = c.row_at in
-    let known = got (row_told s) (row_in (length s) l.at b.args.columns) (R.Note g.note g.next) (note_on b.args.columns (drop l.at s)) g.is m.ensures.result_value m.ensures.row_in in
-    let rest = notes_on (length s - (l.count + 1)) b.args.columns (drop g.next s) in
-    let next = text_next b.args.columns s (length s - (l.count + 1)) l.at below g.note (drop g.next s) known.0 in
+    let known = got (row_told s) (row_in (length s) l.at c.args.columns) (R.Note g.note g.next) (note_on c.args.columns (drop l.at s)) g.is m.ensures.result_value m.ensures.row_in in
+    let rest = notes_on (length s - (l.count + 1)) c.args.columns (drop g.next s) in
+    let next = text_next c.args.columns s (length s - (l.count + 1)) l.at below g.note (drop g.next s) known.0 in
     omega (arith, known.1.1.forward, known.1.1.within)
 
 pub loop-at-preserved : goal.loop-at-preserved
 loop-at-preserved c =
-    let b = c in
-    let s = b.args.s.now in
+    let s = c.args.s.now in
     let l = c.loop-at in
     let below : l.at < length s = omega arith in
     let one : length s - l.count ≡ suc (length s - (l.count + 1)) = omega arith in
-    let all = count_first b.args.columns b.requires s ∙ l.invariant.1.1.1.1 ∙ ap (λ (k : ℕ). count_from (rank l.last) l.count (notes_on k b.args.columns (drop l.at s))) one in
+    let all = count_first c.args.columns c.requires s ∙ l.invariant.1.1.1.1 ∙ ap (λ (k : ℕ). count_from (rank l.last) l.count (notes_on k c.args.columns (drop l.at s))) one in
     let g = c.in-Note in
     let m = c.row_at in
-    let known = got (row_told s) (row_in (length s) l.at b.args.columns) (R.Note g.note g.next) (note_on b.args.columns (drop l.at s)) g.is m.ensures.result_value m.ensures.row_in in
-    let rest = notes_on (length s - (l.count + 1)) b.args.columns (drop g.next s) in
-    let next = text_next b.args.columns s (length s - (l.count + 1)) l.at below g.note (drop g.next s) known.0 in
-    let kept = sym (count_first b.args.columns b.requires s) ∙ all ∙ ap (count_from (rank l.last) l.count) next
+    let known = got (row_told s) (row_in (length s) l.at c.args.columns) (R.Note g.note g.next) (note_on c.args.columns (drop l.at s)) g.is m.ensures.result_value m.ensures.row_in in
+    let rest = notes_on (length s - (l.count + 1)) c.args.columns (drop g.next s) in
+    let next = text_next c.args.columns s (length s - (l.count + 1)) l.at below g.note (drop g.next s) known.0 in
+    let kept = sym (count_first c.args.columns c.requires s) ∙ all ∙ ap (count_from (rank l.last) l.count) next
     ∙ count_next (rank l.last) l.count g.note rest (ltb-false _ _ (sym c.precedes.ensures ∙ c.if-precedes.false)) in
-    (omega (arith, known.1.1.forward), (known.1.1.within, (omega arith, (omega (arith, known.1.0.0, b.requires.high), kept))))
+    (omega (arith, known.1.1.forward), (known.1.1.within, (omega arith, (omega (arith, known.1.0.0, c.requires.high), kept))))
 
 pub returns : goal.returns
 returns c =
-    let b = c in
-    let s = b.args.s.now in
+    let s = c.args.s.now in
     let l = c.loop-at in
-    sym (count_first b.args.columns b.requires s ∙ l.invariant.1.1.1.1
-    ∙ ap (count_from (rank l.last) l.count) (text_end b.args.columns s (length s - l.count) l.at (omega arith))
+    sym (count_first c.args.columns c.requires s ∙ l.invariant.1.1.1.1
+    ∙ ap (count_from (rank l.last) l.count) (text_end c.args.columns s (length s - l.count) l.at (omega arith))
     ∙ count_end (rank l.last) l.count l.invariant.1.1.0)

@@ -18,8 +18,7 @@ use Rattle.hit_object_reader.proofs.put_notes.Goals as goal
 
 pub loop-at-init : goal.loop-at-init
 loop-at-init c =
-    let b = c in
-    (omega arith, (omega arith, (refl, (rw sub-zero b.requires.lines.1, none_stored b.args.chart.now (omega (arith, b.requires.room))))))
+    (omega arith, (omega arith, (refl, (rw sub-zero c.requires.lines.1, none_stored c.args.chart.now (omega (arith, c.requires.room))))))
 
 pub row_at-requires : goal.row_at-requires
 row_at-requires c = (c.requires.lines.0, omega arith)
@@ -29,94 +28,88 @@ shape_of-chart-in_default c = c.loop-at.invariant.1.1.0
 
 pub returns-in_default : goal.returns-in_default
 returns-in_default c =
-    let b = c in
-    let s = b.args.s.now in
-    let ns = lines_notes b.args.columns s in
+    let s = c.args.s.now in
+    let ns = lines_notes c.args.columns s in
     let l = c.loop-at in
     let below : l.at < length s = omega arith in
     let one : length s - l.i ≡ suc (length s - (l.i + 1)) = omega arith in
     let left = rw one at l.invariant.1.1.1.0 in
-    let bad = text_none b.args.columns s (length s - (l.i + 1)) l.at below (sym c.row_at.ensures.result_value ∙ ap (row_told s) c.in_default.is) in
+    let bad = text_none c.args.columns s (length s - (l.i + 1)) l.at below (sym c.row_at.ensures.result_value ∙ ap (row_told s) c.in_default.is) in
     absurd (let z : ◌≡◌ {A = Option (List Note)} none (some (drop l.i ns)) = sym bad ∙ left in let y : ◌≡◌ {A = ℕ} 0 1 = cc in omega arith)
 
 pub overflow_mul-i : goal.overflow_mul-i
 overflow_mul-i c =
-    let b = c in
-    let s = b.args.s.now in
-    let ns = lines_notes b.args.columns s in
+    let s = c.args.s.now in
+    let ns = lines_notes c.args.columns s in
     let l = c.loop-at in
     let below : l.at < length s = omega arith in
     let one : length s - l.i ≡ suc (length s - (l.i + 1)) = omega arith in
     let left = rw one at l.invariant.1.1.1.0 in
     let g = c.in-Note in
     let m = c.row_at in
-    let known = got (row_told s) (row_in (length s) l.at b.args.columns) (R.Note g.note g.next) (note_on b.args.columns (drop l.at s)) g.is m.ensures.result_value m.ensures.row_in in
-    let rest = notes_on (length s - (l.i + 1)) b.args.columns (drop g.next s) in
-    let next = next_note ns l.i g.note rest (sym (text_next b.args.columns s (length s - (l.i + 1)) l.at below g.note (drop g.next s) known.0) ∙ left) in
-    omega (arith, next.0, b.requires.room)
+    let known = got (row_told s) (row_in (length s) l.at c.args.columns) (R.Note g.note g.next) (note_on c.args.columns (drop l.at s)) g.is m.ensures.result_value m.ensures.row_in in
+    let rest = notes_on (length s - (l.i + 1)) c.args.columns (drop g.next s) in
+    let next = next_note ns l.i g.note rest (sym (text_next c.args.columns s (length s - (l.i + 1)) l.at below g.note (drop g.next s) known.0) ∙ left) in
+    omega (arith, next.0, c.requires.room)
 
 pub overflow_add-i : goal.overflow_add-i
 overflow_add-i c =
-    let b = c in
-    let s = b.args.s.now in
-    let ns = lines_notes b.args.columns s in
+    let s = c.args.s.now in
+    let ns = lines_notes c.args.columns s in
     let l = c.loop-at in
     let below : l.at < length s = omega arith in
     let one : length s - l.i ≡ suc (length s - (l.i + 1)) = omega arith in
     let left = rw one at l.invariant.1.1.1.0 in
     let g = c.in-Note in
     let m = c.row_at in
-    let known = got (row_told s) (row_in (length s) l.at b.args.columns) (R.Note g.note g.next) (note_on b.args.columns (drop l.at s)) g.is m.ensures.result_value m.ensures.row_in in
-    let rest = notes_on (length s - (l.i + 1)) b.args.columns (drop g.next s) in
-    let next = next_note ns l.i g.note rest (sym (text_next b.args.columns s (length s - (l.i + 1)) l.at below g.note (drop g.next s) known.0) ∙ left) in
-    omega (arith, next.0, b.requires.room)
+    let known = got (row_told s) (row_in (length s) l.at c.args.columns) (R.Note g.note g.next) (note_on c.args.columns (drop l.at s)) g.is m.ensures.result_value m.ensures.row_in in
+    let rest = notes_on (length s - (l.i + 1)) c.args.columns (drop g.next s) in
+    let next = next_note ns l.i g.note rest (sym (text_next c.args.columns s (length s - (l.i + 1)) l.at below g.note (drop g.next s) known.0) ∙ left) in
+    omega (arith, next.0, c.requires.room)
 
 pub put_old_note-requires : goal.put_old_note-requires
 put_old_note-requires c =
-    let b = c in
-    let s = b.args.s.now in
-    let ns = lines_notes b.args.columns s in
+    let s = c.args.s.now in
+    let ns = lines_notes c.args.columns s in
     let l = c.loop-at in
     let below : l.at < length s = omega arith in
     let one : length s - l.i ≡ suc (length s - (l.i + 1)) = omega arith in
     let left = rw one at l.invariant.1.1.1.0 in
     let g = c.in-Note in
     let m = c.row_at in
-    let known = got (row_told s) (row_in (length s) l.at b.args.columns) (R.Note g.note g.next) (note_on b.args.columns (drop l.at s)) g.is m.ensures.result_value m.ensures.row_in in
-    let rest = notes_on (length s - (l.i + 1)) b.args.columns (drop g.next s) in
-    let next = next_note ns l.i g.note rest (sym (text_next b.args.columns s (length s - (l.i + 1)) l.at below g.note (drop g.next s) known.0) ∙ left) in
-    (ap index known.1.0.1, omega (arith, next.0, b.requires.room, l.invariant.1.1.0))
+    let known = got (row_told s) (row_in (length s) l.at c.args.columns) (R.Note g.note g.next) (note_on c.args.columns (drop l.at s)) g.is m.ensures.result_value m.ensures.row_in in
+    let rest = notes_on (length s - (l.i + 1)) c.args.columns (drop g.next s) in
+    let next = next_note ns l.i g.note rest (sym (text_next c.args.columns s (length s - (l.i + 1)) l.at below g.note (drop g.next s) known.0) ∙ left) in
+    (ap index known.1.0.1, omega (arith, next.0, c.requires.room, l.invariant.1.1.0))
 
 pub loop-at-smaller : goal.loop-at-smaller
 loop-at-smaller c =
-    let b = c in
-    let s = b.args.s.now in
-    let ns = lines_notes b.args.columns s in
+    let s = c.args.s.now in
+    let ns = lines_notes c.args.columns s in
     let l = c.loop-at in
     let below : l.at < length s = omega arith in
     let one : length s - l.i ≡ suc (length s - (l.i + 1)) = omega arith in
     let left = rw one at l.invariant.1.1.1.0 in
     let g = c.in-Note in
     let m = c.row_at in
-    let known = got (row_told s) (row_in (length s) l.at b.args.columns) (R.Note g.note g.next) (note_on b.args.columns (drop l.at s)) g.is m.ensures.result_value m.ensures.row_in in
-    let rest = notes_on (length s - (l.i + 1)) b.args.columns (drop g.next s) in
-    let next = next_note ns l.i g.note rest (sym (text_next b.args.columns s (length s - (l.i + 1)) l.at below g.note (drop g.next s) known.0) ∙ left) in
+    let known = got (row_told s) (row_in (length s) l.at c.args.columns) (R.Note g.note g.next) (note_on c.args.columns (drop l.at s)) g.is m.ensures.result_value m.ensures.row_in in
+    let rest = notes_on (length s - (l.i + 1)) c.args.columns (drop g.next s) in
+    let next = next_note ns l.i g.note rest (sym (text_next c.args.columns s (length s - (l.i + 1)) l.at below g.note (drop g.next s) known.0) ∙ left) in
     omega (arith, known.1.1.forward, known.1.1.within)
 
 pub loop-at-preserved : goal.loop-at-preserved
 loop-at-preserved c =
-    let b = c in
-    let s = b.args.s.now in
-    let ns = lines_notes b.args.columns s in
+    let s = c.args.s.now in
+    let ns = lines_notes c.args.columns s in
     let l = c.loop-at in
     let below : l.at < length s = omega arith in
     let one : length s - l.i ≡ suc (length s - (l.i + 1)) = omega arith in
     let left = rw one at l.invariant.1.1.1.0 in
     let g = c.in-Note in
     let m = c.row_at in
-    let known = got (row_told s) (row_in (length s) l.at b.args.columns) (R.Note g.note g.next) (note_on b.args.columns (drop l.at s)) g.is m.ensures.result_value m.ensures.row_in in
-    let rest = notes_on (length s - (l.i + 1)) b.args.columns (drop g.next s) in
-    let next = next_note ns l.i g.note rest (sym (text_next b.args.columns s (length s - (l.i + 1)) l.at below g.note (drop g.next s) known.0) ∙ left) in
+    let known = got (row_told s) (row_in (length s) l.at c.args.columns) (R.Note g.note g.next) (note_on c.args.columns (drop l.at s)) g.is m.ensures.result_value m.ensures.row_in in
+    let rest = notes_on (length s - (l.i + 1)) c.args.columns (drop g.next s) in
+    let next = next_note ns l.i g.note rest (sym (text_next c.args.columns s (length s - (l.i + 1)) l.at below g.note (drop g.next s) known.0) ∙ left) in
     let put = c.put_old_note in (
       omega (arith, known.1.1.forward),
       (
@@ -125,7 +118,7 @@ loop-at-preserved c =
           put.auto.s ∙ l.invariant.1.1.0,
           (
             next.1.1,
-            put.ensures ∙ rw (l.invariant.1.1.1.1, next.1.0) (stored_note b.args.chart.now ns l.i next.0 b.requires.room),
+            put.ensures ∙ rw (l.invariant.1.1.1.1, next.1.0) (stored_note c.args.chart.now ns l.i next.0 c.requires.room),
           ),
         ),
       ),
@@ -136,10 +129,9 @@ shape_of-chart c = c.loop-at.invariant.1.1.0
 
 pub returns : goal.returns
 returns c =
-    let b = c in
-    let s = b.args.s.now in
-    let ns = lines_notes b.args.columns s in
+    let s = c.args.s.now in
+    let ns = lines_notes c.args.columns s in
     let l = c.loop-at in
-    let none_left : [] ≡ drop l.i ns = some-injective [] (drop l.i ns) (sym (text_end b.args.columns s (length s - l.i) l.at (omega arith)) ∙ l.invariant.1.1.1.0) in
+    let none_left : [] ≡ drop l.i ns = some-injective [] (drop l.i ns) (sym (text_end c.args.columns s (length s - l.i) l.at (omega arith)) ∙ l.invariant.1.1.1.0) in
     let all : take l.i ns ≡ ns = take_all l.i ns (omega (arith, ap length none_left, length-drop l.i ns)) in
     l.invariant.1.1.1.1 ∙ rw all

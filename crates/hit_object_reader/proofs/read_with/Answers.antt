@@ -12,35 +12,31 @@ use Rattle.hit_object_reader.proofs.read_with.Goals as goal
 
 pub returns-then-size-chart : goal.returns-then-size-chart
 returns-then-size-chart c =
-    let b = c in
-    let s = b.args.s.now in
-    let ns = lines_notes b.args.columns s in
+    let s = c.args.s.now in
+    let ns = lines_notes c.args.columns s in
     let g = c.in-Notes in
-    let w = counted b.args.columns b.requires s g.count (sym (ap checked_told g.is) ∙ c.check_lines.ensures) in
-    rw (too_short b.args.columns s b.args.chart.now ns w.1.0 (omega (arith, w.1.1))) (record { result_value = refl; chart_after = refl })
+    let w = counted c.args.columns c.requires s g.count (sym (ap checked_told g.is) ∙ c.check_lines.ensures) in
+    rw (too_short c.args.columns s c.args.chart.now ns w.1.0 (omega (arith, w.1.1))) (record { result_value = refl; chart_after = refl })
 
 pub put_notes-requires : goal.put_notes-requires
 put_notes-requires c =
-    let b = c in
-    let s = b.args.s.now in
-    let ns = lines_notes b.args.columns s in
+    let s = c.args.s.now in
+    let ns = lines_notes c.args.columns s in
     let g = c.in-Notes in
-    let w = counted b.args.columns b.requires s g.count (sym (ap checked_told g.is) ∙ c.check_lines.ensures) in
-    record { lines = (b.requires, w.0); room = omega (arith, w.1.1) }
+    let w = counted c.args.columns c.requires s g.count (sym (ap checked_told g.is) ∙ c.check_lines.ensures) in
+    record { lines = (c.requires, w.0); room = omega (arith, w.1.1) }
 
 pub returns-else-size-chart : goal.returns-else-size-chart
 returns-else-size-chart c =
-    let b = c in
-    let s = b.args.s.now in
-    let ns = lines_notes b.args.columns s in
+    let s = c.args.s.now in
+    let ns = lines_notes c.args.columns s in
     let g = c.in-Notes in
-    let w = counted b.args.columns b.requires s g.count (sym (ap checked_told g.is) ∙ c.check_lines.ensures) in
-    let fits : chart_size_in One (length ns) ≤ length b.args.chart.now = omega (arith, w.1.1) in
+    let w = counted c.args.columns c.requires s g.count (sym (ap checked_told g.is) ∙ c.check_lines.ensures) in
+    let fits : chart_size_in One (length ns) ≤ length c.args.chart.now = omega (arith, w.1.1) in
     let head = c.put_old_header.ensures in
-    let whole = rw w.1.1 at (encode_put One b.args.chart.now b.args.columns 0 ns fits) in
-    rw (made b.args.columns s b.args.chart.now ns w.1.0 fits) (record { result_value = rw w.1.1; chart_after = c.put_notes.ensures ∙ rw head whole })
+    let whole = rw w.1.1 at (encode_put One c.args.chart.now c.args.columns 0 ns fits) in
+    rw (made c.args.columns s c.args.chart.now ns w.1.0 fits) (record { result_value = rw w.1.1; chart_after = c.put_notes.ensures ∙ rw head whole })
 
 pub returns-in-Refused : goal.returns-in-Refused
 returns-in-Refused c =
-    let b = c in
-    rw (refused_lines b.args.columns b.args.s.now b.args.chart.now (sym (ap checked_told c.in-Refused.is) ∙ c.check_lines.ensures)) (record { result_value = refl; chart_after = refl })
+    rw (refused_lines c.args.columns c.args.s.now c.args.chart.now (sym (ap checked_told c.in-Refused.is) ∙ c.check_lines.ensures)) (record { result_value = refl; chart_after = refl })

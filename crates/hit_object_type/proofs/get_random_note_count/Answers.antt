@@ -6,5 +6,4 @@ use Rattle.hit_object_type.proofs.get_random_note_count.Goals as goal
 pub returns : goal.returns
 unfolding count_of round of_bits
 returns c =
-    let k = c in
-    rw (← k.capped-c.ensures, ← c.has_flag-clap.ensures, ← c.certain-p2.ensures) c.get_random_note_count.ensures
+    rw (← c.capped-c.ensures, ← c.has_flag-clap.ensures, ← c.certain-p2.ensures) c.get_random_note_count.ensures

@@ -15,8 +15,7 @@ returns-then-columns-eq3 c = rw (ne_eqb _ _ c.if-columns-eq2.false, eq-eqb _ _ c
 pub returns-then-columns-eq4 : goal.returns-then-columns-eq4
 unfolding mirrored_chances round of_bits
 returns-then-columns-eq4 c =
-    let k = c in
-    rw (ne_eqb _ _ k.if-columns-eq2.false, ne_eqb _ _ k.if-columns-eq3.false, eq-eqb _ _ k.if-columns-eq4.true, c.halved-q2.ensures)
+    rw (ne_eqb _ _ c.if-columns-eq2.false, ne_eqb _ _ c.if-columns-eq3.false, eq-eqb _ _ c.if-columns-eq4.true, c.halved-q2.ensures)
 
 pub returns-then-columns-eq5 : goal.returns-then-columns-eq5
 unfolding mirrored_chances round of_bits
@@ -25,8 +24,7 @@ returns-then-columns-eq5 c = rw (ne_eqb _ _ c.if-columns-eq2.false, ne_eqb _ _ c
 pub returns-then-columns-eq6 : goal.returns-then-columns-eq6
 unfolding mirrored_chances round of_bits
 returns-then-columns-eq6 c =
-    let k = c in
-    rw (ne_eqb _ _ k.if-columns-eq2.false, ne_eqb _ _ k.if-columns-eq3.false, ne_eqb _ _ k.if-columns-eq4.false, ne_eqb _ _ k.if-columns-eq5.false, eq-eqb _ _ k.if-columns-eq6.true, c.halved-q2-then-columns-eq6.ensures, c.halved-q3.ensures)
+    rw (ne_eqb _ _ c.if-columns-eq2.false, ne_eqb _ _ c.if-columns-eq3.false, ne_eqb _ _ c.if-columns-eq4.false, ne_eqb _ _ c.if-columns-eq5.false, eq-eqb _ _ c.if-columns-eq6.true, c.halved-q2-then-columns-eq6.ensures, c.halved-q3.ensures)
 
 pub returns : goal.returns
 unfolding mirrored_chances

@@ -6,23 +6,19 @@ use Rattle.hit_object_type.proofs.type_by_sound.Goals as goal
 pub returns-then-single : goal.returns-then-single
 unfolding type_by_sound
 returns-then-single c =
-    let k = c in
-    rw (← k.has_type-single.ensures, c.if-single.true)
+    rw (← c.has_type-single.ensures, c.if-single.true)
 
 pub returns-then-mirrored : goal.returns-then-mirrored
 unfolding type_by_sound ◌⊔ₜ◌
 returns-then-mirrored c =
-    let k = c in
-    rw (← k.has_type-single.ensures, ← k.has_flag-finish.ensures, c.if-single.false, c.if-mirrored.true)
+    rw (← c.has_type-single.ensures, ← c.has_flag-finish.ensures, c.if-single.false, c.if-mirrored.true)
 
 pub returns-then-clap : goal.returns-then-clap
 unfolding type_by_sound ◌⊔ₜ◌
 returns-then-clap c =
-    let k = c in
-    rw (← k.has_type-single.ensures, ← k.has_flag-finish.ensures, ← k.has_flag-clap.ensures, c.if-single.false, c.if-mirrored.false, c.if-clap.true)
+    rw (← c.has_type-single.ensures, ← c.has_flag-finish.ensures, ← c.has_flag-clap.ensures, c.if-single.false, c.if-mirrored.false, c.if-clap.true)
 
 pub returns : goal.returns
 unfolding type_by_sound
 returns c =
-    let k = c in
-    rw (← k.has_type-single.ensures, ← k.has_flag-finish.ensures, ← k.has_flag-clap.ensures, c.if-single.false, c.if-mirrored.false, c.if-clap.false)
+    rw (← c.has_type-single.ensures, ← c.has_flag-finish.ensures, ← c.has_flag-clap.ensures, c.if-single.false, c.if-mirrored.false, c.if-clap.false)

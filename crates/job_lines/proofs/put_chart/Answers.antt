@@ -18,11 +18,10 @@ returns-in-Length c =
 pub returns-in-Refused : goal.returns-in-Refused
 unfolding draws_of
 returns-in-Refused c =
-    let s = c in
     let w = c.write_lines in
     let g = c.in-Refused in
     let put = c.put_refusal_line in
     let draws = c.get.ensures.0 in
-    let refusal = left s.args.chart.now s.args.text.now g.number (omega (arith, s.requires.1)) (sym w.ensures.result_value ∙ ap told g.is) in
+    let refusal = left c.args.chart.now c.args.text.now g.number (omega (arith, c.requires.1)) (sym w.ensures.result_value ∙ ap told g.is) in
     rw (refusal.line, ← draws)
-    (record { value = (put.ensures.value.0 ∙ zero-add _, omega (arith, put.ensures.value.1, s.requires.1)); text_after = put.ensures.s_after ∙ rw (w.ensures.text_after ∙ refusal.bytes) })
+    (record { value = (put.ensures.value.0 ∙ zero-add _, omega (arith, put.ensures.value.1, c.requires.1)); text_after = put.ensures.s_after ∙ rw (w.ensures.text_after ∙ refusal.bytes) })

@@ -17,8 +17,7 @@ use Rattle.job_lines.proofs.put_job.Goals.{In-Chart}
 fits : (c : In-Chart) → c.in-Chart.size ≤ length c.convert.new.chart
 fits c =
     let convert = c.convert in
-    let start = c in
-    chart_fits start.args.bytes.now start.args.chart.now convert.new.chart allowance c.in-Chart.size c.in-Chart.longest convert.result convert.ensures c.in-Chart.is
+    chart_fits c.args.bytes.now c.args.chart.now convert.new.chart allowance c.in-Chart.size c.in-Chart.longest convert.result convert.ensures c.in-Chart.is
 
 pub slice_bounds-put_chart-end : goal.slice_bounds-put_chart-end
 slice_bounds-put_chart-end c = fits (goal.at.slice_bounds-put_chart-end c).In-Chart
@@ -28,31 +27,23 @@ slice_bounds-put_chart-end-in-Chart c = sym (length-take-le _ _ (fits (goal.at.s
 
 pub put_chart-requires : goal.put_chart-requires
 put_chart-requires c =
-    let k = c in
-    let made = k.convert.new.chart in
-    let start = k in
-    let kept : length made ≡ length start.args.chart.now = search rules in
-    let long = chart_long start.args.bytes.now start.args.chart.now made allowance k.in-Chart.size k.in-Chart.longest k.convert.result
-    k.convert.ensures k.in-Chart.is in
-    (omega (arith, length-take-le _ made (fits (goal.at.put_chart-requires c).In-Chart), long), omega (arith, length-take-le _ made (fits (goal.at.put_chart-requires c).In-Chart), kept, fits (goal.at.put_chart-requires c).In-Chart, start.requires))
+    let made = c.convert.new.chart in
+    let kept : length made ≡ length c.args.chart.now = search rules in
+    let long = chart_long c.args.bytes.now c.args.chart.now made allowance c.in-Chart.size c.in-Chart.longest c.convert.result
+    c.convert.ensures c.in-Chart.is in
+    (omega (arith, length-take-le _ made (fits (goal.at.put_chart-requires c).In-Chart), long), omega (arith, length-take-le _ made (fits (goal.at.put_chart-requires c).In-Chart), kept, fits (goal.at.put_chart-requires c).In-Chart, c.requires))
 
 pub returns-in-Chart : goal.returns-in-Chart
 returns-in-Chart c =
-    let put = c in
-    let k = put in
-    let convert = k.convert in
-    let start = k in
-    let text = ended_text start.args.bytes.now start.args.chart.now convert.new.chart allowance convert.result (J.Chart k.in-Chart.size k.in-Chart.longest) convert.ensures
-    k.in-Chart.is lines_text put.put_chart.result start.args.text.now put.put_chart.new.text (put.put_chart.ensures.value.0, put.put_chart.ensures.text_after) in
-    record { value = (text.0, put.put_chart.ensures.value.1); text_after = text.1 }
+    let convert = c.convert in
+    let text = ended_text c.args.bytes.now c.args.chart.now convert.new.chart allowance convert.result (J.Chart c.in-Chart.size c.in-Chart.longest) convert.ensures
+    c.in-Chart.is lines_text c.put_chart.result c.args.text.now c.put_chart.new.text (c.put_chart.ensures.value.0, c.put_chart.ensures.text_after) in
+    record { value = (text.0, c.put_chart.ensures.value.1); text_after = text.1 }
 
 pub returns-in-Refused : goal.returns-in-Refused
 returns-in-Refused c =
-    let put = c in
-    let k = put in
-    let convert = k.convert in
-    let start = k in
-    let v = k.in-Refused in
-    let text = ended_text start.args.bytes.now start.args.chart.now convert.new.chart allowance convert.result (J.Refused v.number v.object v.draws) convert.ensures
-    v.is lines_text put.put_refusal_line.result start.args.text.now put.put_refusal_line.new.s (omega (arith, put.put_refusal_line.ensures.value.0), put.put_refusal_line.ensures.s_after) in
-    record { value = (text.0, omega (arith, put.put_refusal_line.ensures.value.1, start.requires)); text_after = text.1 }
+    let convert = c.convert in
+    let v = c.in-Refused in
+    let text = ended_text c.args.bytes.now c.args.chart.now convert.new.chart allowance convert.result (J.Refused v.number v.object v.draws) convert.ensures
+    v.is lines_text c.put_refusal_line.result c.args.text.now c.put_refusal_line.new.s (omega (arith, c.put_refusal_line.ensures.value.0), c.put_refusal_line.ensures.s_after) in
+    record { value = (text.0, omega (arith, c.put_refusal_line.ensures.value.1, c.requires)); text_after = text.1 }

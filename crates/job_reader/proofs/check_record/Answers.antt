@@ -28,18 +28,14 @@ fill_refusal-fill-requires c =
 
 pub returns-then-fill-ne0 : goal.returns-then-fill-ne0
 returns-then-fill-ne0 c =
-    let k = c in
-    check_fill _ (sym (before-is (goal.at.returns-then-fill-ne0 c).After-first-before) ∙ k.if-before-ne0.false) _ _ _ (sym (scan-is (goal.at.returns-then-fill-ne0 c).After-scan_objects) ∙ c.in-Scanned.is) _ c.fill_refusal-fill.ensures c.if-fill-ne0.true
+    check_fill _ (sym (before-is (goal.at.returns-then-fill-ne0 c).After-first-before) ∙ c.if-before-ne0.false) _ _ _ (sym (scan-is (goal.at.returns-then-fill-ne0 c).After-scan_objects) ∙ c.in-Scanned.is) _ c.fill_refusal-fill.ensures c.if-fill-ne0.true
 
 pub returns-in-Refused : goal.returns-in-Refused
 returns-in-Refused c =
-    let k = c in
-    check_objects _ (sym (before-is (goal.at.returns-in-Refused c).After-first-before) ∙ k.if-before-ne0.false) _ (sym (scan-is (goal.at.returns-in-Refused c).After-scan_objects) ∙ c.in-Refused.is)
+    check_objects _ (sym (before-is (goal.at.returns-in-Refused c).After-first-before) ∙ c.if-before-ne0.false) _ (sym (scan-is (goal.at.returns-in-Refused c).After-scan_objects) ∙ c.in-Refused.is)
 
 pub returns-else-fill-ne0 : goal.returns-else-fill-ne0
 returns-else-fill-ne0 c =
-    let e = c in
-    let k = e in
     let start = c.first_start-first.ensures in
-    rw (c.keys_of-keys.ensures, c.settings_of-settings.ensures, start, k.places_of-places.ensures.0, k.counts_of-counts.ensures.0)
-    (check_accepted _ (sym (before-is (goal.at.returns-else-fill-ne0 c).After-first-before) ∙ k.if-before-ne0.false) _ _ _ (sym (scan-is (goal.at.returns-else-fill-ne0 c).After-scan_objects) ∙ e.in-Scanned.is) (sym c.fill_refusal-fill.ensures ∙ c.if-fill-ne0.false))
+    rw (c.keys_of-keys.ensures, c.settings_of-settings.ensures, start, c.places_of-places.ensures.0, c.counts_of-counts.ensures.0)
+    (check_accepted _ (sym (before-is (goal.at.returns-else-fill-ne0 c).After-first-before) ∙ c.if-before-ne0.false) _ _ _ (sym (scan-is (goal.at.returns-else-fill-ne0 c).After-scan_objects) ∙ c.in-Scanned.is) (sym c.fill_refusal-fill.ensures ∙ c.if-fill-ne0.false))

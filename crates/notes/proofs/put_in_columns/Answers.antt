@@ -14,14 +14,9 @@ put_note-requires c = (omega arith, omega arith, omega arith)
 
 pub loop-i-preserved : goal.loop-i-preserved
 loop-i-preserved c =
-    let put = c in
-    let row = put in
-    let word = row in
-    let loop = word.loop-i in
-    put_next _ _ _ _ _ _ _ loop.invariant (omega arith) (rw (word.column_of.ensures, row.pinned.ensures, row.pinned-in-loop-i.ensures)) put.put_note.ensures
+    let loop = c.loop-i in
+    put_next _ _ _ _ _ _ _ loop.invariant (omega arith) (rw (c.column_of.ensures, c.pinned.ensures, c.pinned-in-loop-i.ensures)) c.put_note.ensures
 
 pub returns : goal.returns
 returns c =
-    let loop = c in
-    let begin = loop in
-    all_written _ _ _ _ _ _ _ _ _ loop.loop-i.invariant c.loop-i-test.false (ap (row_in _) begin.pattern_of-p.ensures ∙ row_is _ _)
+    all_written _ _ _ _ _ _ _ _ _ c.loop-i.invariant c.loop-i-test.false (ap (row_in _) c.pattern_of-p.ensures ∙ row_is _ _)

@@ -9,26 +9,19 @@ use Rattle.notes.proofs.put_notes.Goals as goal
 pub returns-in-Circle : goal.returns-in-Circle
 unfolding note_at note_by
 returns-in-Circle c =
-    let put = c in
-    let made = put in
-    put.put_in_columns.ensures ∙ rw (made.circle.ensures, circles_in, made.in-Circle.is)
+    c.put_in_columns.ensures ∙ rw (c.circle.ensures, circles_in, c.in-Circle.is)
 
 pub returns-in-Slider : goal.returns-in-Slider
 unfolding note_at note_by
 returns-in-Slider c =
-    let put = c in
-    put.put_slider_notes.ensures ∙ rw put.in-Slider.is
+    c.put_slider_notes.ensures ∙ rw c.in-Slider.is
 
 pub returns-in-Spinner : goal.returns-in-Spinner
 unfolding note_at note_by end_note_at end_note lasting
 returns-in-Spinner c =
-    let put = c in
-    let made = put in
-    put.put_in_columns-in-Spinner.ensures ∙ rw (made.end_note_at.ensures, ends_in, made.in-Spinner.is)
+    c.put_in_columns-in-Spinner.ensures ∙ rw (c.end_note_at.ensures, ends_in, c.in-Spinner.is)
 
 pub returns-in-Hold : goal.returns-in-Hold
 unfolding note_at note_by end_note_at end_note lasting
 returns-in-Hold c =
-    let put = c in
-    let made = put in
-    put.put_in_columns-in-Hold.ensures ∙ rw (made.end_note_at-in-Hold.ensures, ends_in, made.in-Hold.is)
+    c.put_in_columns-in-Hold.ensures ∙ rw (c.end_note_at-in-Hold.ensures, ends_in, c.in-Hold.is)

@@ -13,15 +13,12 @@ loop-i-init c = none_yet _ _ _ _ _ (omega arith) (omega arith)
 
 pub put_note-requires : goal.put_note-requires
 put_note-requires c =
-    let made = c in
-    (rw (made.pattern_of-p.ensures, made.note_of-n.ensures) (slider_narrow _ _), rw made.pattern_of-p.ensures (told_below _ _ (omega arith)), omega arith)
+    (rw (c.pattern_of-p.ensures, c.note_of-n.ensures) (slider_narrow _ _), rw c.pattern_of-p.ensures (told_below _ _ (omega arith)), omega arith)
 
 pub loop-i-preserved : goal.loop-i-preserved
 loop-i-preserved c =
-    let put = c in
-    let made = put in
-    let loop = made.loop-i in
-    put_next _ _ _ _ _ _ _ loop.invariant (omega arith) (rw (made.pattern_of-p.ensures, made.note_of-n.ensures)) put.put_note.ensures
+    let loop = c.loop-i in
+    put_next _ _ _ _ _ _ _ loop.invariant (omega arith) (rw (c.pattern_of-p.ensures, c.note_of-n.ensures)) c.put_note.ensures
 
 pub returns : goal.returns
 returns c = all_written _ _ _ note_of_word _ _ _ _ _ c.loop-i.invariant c.loop-i-test.false refl

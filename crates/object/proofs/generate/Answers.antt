@@ -12,23 +12,19 @@ generate_slider-requires c =
 
 pub returns-in-Circle : goal.returns-in-Circle
 returns-in-Circle c =
-    let s = c in
-    circle_ends _ _ _ _ _ _ _ c.in-Circle.is s.requires.low c.generate_circle.ensures
+    circle_ends _ _ _ _ _ _ _ c.in-Circle.is c.requires.low c.generate_circle.ensures
 
 pub returns-in-Slider : goal.returns-in-Slider
 returns-in-Slider c =
-    let s = c in
     let k = c.in-Slider in
-    slider_ends _ _ _ _ _ _ _ k.repeats k.distance k.node k.is s.requires.low c.generate_slider.ensures
+    slider_ends _ _ _ _ _ _ _ k.repeats k.distance k.node k.is c.requires.low c.generate_slider.ensures
 
 pub returns-in-Spinner : goal.returns-in-Spinner
 returns-in-Spinner c =
-    let s = c in
     let k = c.in-Spinner in
-    spinner_ends _ _ _ _ _ _ _ k.duration s.requires.last s.requires.mask c.generate_owned.ensures k.is
+    spinner_ends _ _ _ _ _ _ _ k.duration c.requires.last c.requires.mask c.generate_owned.ensures k.is
 
 pub returns-in-Hold : goal.returns-in-Hold
 returns-in-Hold c =
-    let s = c in
     let k = c.in-Hold in
-    hold_ends _ _ _ _ _ _ _ k.duration s.requires.last s.requires.mask c.generate_owned-in-Hold.ensures k.is
+    hold_ends _ _ _ _ _ _ _ k.duration c.requires.last c.requires.mask c.generate_owned-in-Hold.ensures k.is

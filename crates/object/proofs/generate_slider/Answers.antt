@@ -12,10 +12,9 @@ use Rattle.object.proofs.generate_slider.Goals as goal
 
 pub generate_owned-requires : goal.generate_owned-requires
 generate_owned-requires c =
-    let s = c in
-    let a = s.args in (
-      rw c.new-g.ensures (ready a.f a.v a.columns a.o a.repeats a.distance a.node _ s.requires.0 s.requires.1 s.requires.2 s.requires.3 (omega (arith, s.requires.5))),
-      omega (arith, s.requires.4),
+    let a = c.args in (
+      rw c.new-g.ensures (ready a.f a.v a.columns a.o a.repeats a.distance a.node _ c.requires.0 c.requires.1 c.requires.2 c.requires.3 (omega (arith, c.requires.5))),
+      omega (arith, c.requires.4),
     )
 
 pub returns : goal.returns

@@ -19,19 +19,17 @@ returns-then-end-gt-LATEST_END c = record { says = sym (late _ _ c.if-end-gt-LAT
 
 pub split-q-requires : goal.split-q-requires
 split-q-requires c =
-    let s = c in
     let few = subst (λ (r : Placed). many r ≤ most_notes) c.in-Notes.is c.generate_core.ensures.few in
-    (omega (arith, few, c.generate_core.auto.words, s.requires.0.room), omega (arith, few, s.requires.1))
+    (omega (arith, few, c.generate_core.auto.words, c.requires.0.room), omega (arith, few, c.requires.1))
 
 pub returns-in-Notes : goal.returns-in-Notes
 returns-in-Notes c =
-    let s = c in
     let core = c.generate_core in
     let o = c.split-q.ensures in
     record {
       says =
-          ap (λ (m : Made). found m c.in-Notes.next) (made_is s.args.g.stair _ c.split-q.result)
-          ∙ ap (λ (q : Pattern SliderNote). found (made s.args.g.stair q) c.in-Notes.next) o.is
+          ap (λ (m : Made). found m c.in-Notes.next) (made_is c.args.g.stair _ c.split-q.result)
+          ∙ ap (λ (q : Pattern SliderNote). found (made c.args.g.stair q) c.in-Notes.next) o.is
           ∙ sym (in_time _ _ c.if-end-gt-LATEST_END.false _ _ (sym core.ensures.says ∙ ap (placed of_word core.new.words) c.in-Notes.is));
       few = omega (arith, o.same, subst (λ (r : Placed). many r ≤ most_notes) c.in-Notes.is core.ensures.few);
     }

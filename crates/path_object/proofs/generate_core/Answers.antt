@@ -13,19 +13,17 @@ use Rattle.path_object.proofs.generate_core.Goals as goal
 pub returns-then-columns-eq1 : goal.returns-then-columns-eq1
 unfolding generate_core
 returns-then-columns-eq1 c =
-    let s = c in
     let w = c.put_slider_note-p.ensures in
     record {
       says =
-          rw (w.is, empty_is of_word s.args.words.now)
-          (sym (rw (eq-eqb _ _ c.if-columns-eq1.true) (add_on s.args.g 0 s.args.g.start s.args.g.end _ s.args.d (omega (arith, s.requires.0.low)))));
+          rw (w.is, empty_is of_word c.args.words.now)
+          (sym (rw (eq-eqb _ _ c.if-columns-eq1.true) (add_on c.args.g 0 c.args.g.start c.args.g.end _ c.args.d (omega (arith, c.requires.0.low)))));
       few = omega (arith, w.more);
     }
 
 pub generate_spans-requires : goal.generate_spans-requires
 generate_spans-requires c =
-    let s = c in
-    (fits _ _ s.requires.0 s.requires.1 c.if-columns-eq1.false, s.requires.0.share)
+    (fits _ _ c.requires.0 c.requires.1 c.if-columns-eq1.false, c.requires.0.share)
 
 pub returns-then-spans-gt1 : goal.returns-then-spans-gt1
 unfolding generate_core
@@ -35,8 +33,7 @@ returns-then-spans-gt1 c =
 
 pub generate_span-requires : goal.generate_span-requires
 generate_span-requires c =
-    let s = c in
-    fits _ _ s.requires.0 s.requires.1 c.if-columns-eq1.false
+    fits _ _ c.requires.0 c.requires.1 c.if-columns-eq1.false
 
 pub returns : goal.returns
 unfolding generate_core

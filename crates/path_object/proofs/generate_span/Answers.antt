@@ -11,9 +11,8 @@ use Rattle.path_object.proofs.generate_span.Goals as goal
 
 pub generate_random_notes-requires : goal.generate_random_notes-requires
 generate_random_notes-requires c =
-    let s = c in
     let n = c.span_notes-n.ensures in
-    (s.requires, omega (arith, n, most (leb 80 s.args.g.length), s.requires.one))
+    (c.requires, omega (arith, n, most (leb 80 c.args.g.length), c.requires.one))
   where
     most : (b : Bool) → (if b then 2 else 1) ≤ 2
     most true = omega arith

@@ -35,30 +35,22 @@ returns-then-fast c =
 pub returns-then-lasts-ge4000 : goal.returns-then-lasts-ge4000
 unfolding generate_spans percent round of_bits
 returns-then-lasts-ge4000 c =
-    let t = c in
-    let e = t in
     places _ _ _ _ _ _ c.generate_n_random_notes.ensures
-    (rw (lt-leb _ _ e.if-span-le90.false, lt-leb _ _ e.if-span-le120.false, lt-leb _ _ e.if-span-le160.false, e.if-fast.false, ← t.lasting-lasts.ensures, le-leb _ _ t.if-lasts-ge4000.true)) (omega arith)
+    (rw (lt-leb _ _ c.if-span-le90.false, lt-leb _ _ c.if-span-le120.false, lt-leb _ _ c.if-span-le160.false, c.if-fast.false, ← c.lasting-lasts.ensures, le-leb _ _ c.if-lasts-ge4000.true)) (omega arith)
 
 pub returns-then-tiled : goal.returns-then-tiled
 unfolding generate_spans round of_bits
 returns-then-tiled c =
-    let n = c in
-    let e = n in
     places _ _ _ _ _ _ c.generate_tiled_hold_notes.ensures
-    (rw (lt-leb _ _ e.if-span-le90.false, lt-leb _ _ e.if-span-le120.false, lt-leb _ _ e.if-span-le160.false, e.if-fast.false, ← n.lasting-lasts.ensures, lt-leb _ _ n.if-lasts-ge4000.false, ← c.tile_limit-limit.ensures, c.if-tiled.true)) (omega arith)
+    (rw (lt-leb _ _ c.if-span-le90.false, lt-leb _ _ c.if-span-le120.false, lt-leb _ _ c.if-span-le160.false, c.if-fast.false, ← c.lasting-lasts.ensures, lt-leb _ _ c.if-lasts-ge4000.false, ← c.tile_limit-limit.ensures, c.if-tiled.true)) (omega arith)
 
 pub generate_hold_and_normal_notes-requires : goal.generate_hold_and_normal_notes-requires
 generate_hold_and_normal_notes-requires c =
-    let l = c in
-    let s = l in
-    let g = s.args.g in
-    (s.requires.0, few_spans g.length g.spans l.if-span-le160.false (omega (arith, l.lasting-lasts.ensures, c.if-lasts-ge4000.false, s.requires.1)))
+    let g = c.args.g in
+    (c.requires.0, few_spans g.length g.spans c.if-span-le160.false (omega (arith, c.lasting-lasts.ensures, c.if-lasts-ge4000.false, c.requires.1)))
 
 pub returns : goal.returns
 unfolding generate_spans round of_bits
 returns c =
-    let n = c in
-    let e = n in
     places _ _ _ _ _ _ c.generate_hold_and_normal_notes.ensures
-    (rw (lt-leb _ _ e.if-span-le90.false, lt-leb _ _ e.if-span-le120.false, lt-leb _ _ e.if-span-le160.false, e.if-fast.false, ← n.lasting-lasts.ensures, lt-leb _ _ n.if-lasts-ge4000.false, ← c.tile_limit-limit.ensures, c.if-tiled.false)) (omega arith)
+    (rw (lt-leb _ _ c.if-span-le90.false, lt-leb _ _ c.if-span-le120.false, lt-leb _ _ c.if-span-le160.false, c.if-fast.false, ← c.lasting-lasts.ensures, lt-leb _ _ c.if-lasts-ge4000.false, ← c.tile_limit-limit.ensures, c.if-tiled.false)) (omega arith)

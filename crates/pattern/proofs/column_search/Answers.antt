@@ -8,15 +8,13 @@ returns-then-is_free c = sym (find_self _ _ _ _ _ _ _ (sym c.is_free.ensures ∙
 
 pub returns-then-any_free : goal.returns-then-any_free
 returns-then-any_free c =
-    let k = c in
     c.search_on.ensures
     ∙ sym
-    (find_on _ _ _ _ _ _ _ (sym k.is_free.ensures ∙ k.if-is_free.false)
+    (find_on _ _ _ _ _ _ _ (sym c.is_free.ensures ∙ c.if-is_free.false)
     (sym c.any_free.ensures ∙ c.if-any_free.true))
 
 pub returns : goal.returns
 returns c =
-    let k = c in
     sym
-    (find_none _ _ _ _ _ _ _ (sym k.is_free.ensures ∙ k.if-is_free.false)
+    (find_none _ _ _ _ _ _ _ (sym c.is_free.ensures ∙ c.if-is_free.false)
     (sym c.any_free.ensures ∙ c.if-any_free.false))

@@ -18,10 +18,9 @@ loop-made-init c = draw_start _ _ _ _
 -- none is left
 pub returns-in_default : goal.returns-in_default
 returns-in_default c =
-    let t = c in
     ap (λ (d : Draws). refused 12 d) c.after_search-after.ensures
-    ∙ sym (draw_out _ _ _ _ _ t.loop-made-test.true (sym c.draw.ensures ∙ ap (drawn _) c.in_default.is))
-    ∙ t.loop-made.invariant
+    ∙ sym (draw_out _ _ _ _ _ c.loop-made-test.true (sym c.draw.ensures ∙ ap (drawn _) c.in_default.is))
+    ∙ c.loop-made.invariant
 
 pub overflow_add-made : goal.overflow_add-made
 overflow_add-made c = omega (arith, c.loop-made-test.true)
@@ -42,22 +41,18 @@ is_free-requires c =
 -- a free column
 pub returns-then-is_free : goal.returns-then-is_free
 returns-then-is_free c =
-    let k = c in
-    let t = k in
-    ap (λ (d : Draws). found (record { column = c.next_int_range-c.result; draws = t.loop-made.made + 1 }) d) c.after_search-after-then-is_free.ensures
-    ∙ sym (draw_hit _ _ _ _ _ t.loop-made-test.true _ _ _ (got (goal.at.returns-then-is_free c).In-Value) c.next_int_range-c.ensures (sym c.is_free.ensures ∙ c.if-is_free.true))
-    ∙ t.loop-made.invariant
+    ap (λ (d : Draws). found (record { column = c.next_int_range-c.result; draws = c.loop-made.made + 1 }) d) c.after_search-after-then-is_free.ensures
+    ∙ sym (draw_hit _ _ _ _ _ c.loop-made-test.true _ _ _ (got (goal.at.returns-then-is_free c).In-Value) c.next_int_range-c.ensures (sym c.is_free.ensures ∙ c.if-is_free.true))
+    ∙ c.loop-made.invariant
 
 pub loop-made-smaller : goal.loop-made-smaller
-loop-made-smaller c = let t = c in omega (arith, t.loop-made-test.true)
+loop-made-smaller c = omega (arith, c.loop-made-test.true)
 
 -- a column that is taken
 pub loop-made-preserved : goal.loop-made-preserved
 loop-made-preserved c =
-    let k = c in
-    let t = k in
-    sym (draw_miss _ _ _ _ _ t.loop-made-test.true _ _ _ (got (goal.at.loop-made-preserved c).In-Value) c.next_int_range-c.ensures (sym c.is_free.ensures ∙ c.if-is_free.false))
-    ∙ t.loop-made.invariant
+    sym (draw_miss _ _ _ _ _ c.loop-made-test.true _ _ _ (got (goal.at.loop-made-preserved c).In-Value) c.next_int_range-c.ensures (sym c.is_free.ensures ∙ c.if-is_free.false))
+    ∙ c.loop-made.invariant
 
 -- a draw beyond the limit
 pub returns : goal.returns

@@ -17,14 +17,13 @@ is_free-requires c = omega (arith, small (goal.at.is_free-requires c).After-next
 
 pub returns-then-is_free : goal.returns-then-is_free
 returns-then-is_free c =
-    let k = c in
-    sym (step_hit _ _ _ _ _ _ k.loop-left-test.true k.next_column-c.ensures (sym c.is_free.ensures ∙ c.if-is_free.true)) ∙ k.loop-left.invariant.1
+    sym (step_hit _ _ _ _ _ _ c.loop-left-test.true c.next_column-c.ensures (sym c.is_free.ensures ∙ c.if-is_free.true)) ∙ c.loop-left.invariant.1
 
 pub loop-left-preserved : goal.loop-left-preserved
 loop-left-preserved c =
-    let k = c in (
+    (
       small (goal.at.loop-left-preserved c).After-next_column-c,
-      sym (step_miss _ _ _ _ _ _ k.loop-left-test.true k.next_column-c.ensures (sym c.is_free.ensures ∙ c.if-is_free.false)) ∙ k.loop-left.invariant.1,
+      sym (step_miss _ _ _ _ _ _ c.loop-left-test.true c.next_column-c.ensures (sym c.is_free.ensures ∙ c.if-is_free.false)) ∙ c.loop-left.invariant.1,
     )
 
 pub returns : goal.returns

@@ -9,14 +9,13 @@ use Rattle.points.proofs.points_up_to.Goals.{In-loop-number, then-from-t, else-f
 
 pub loop-number-init : goal.loop-number-init
 loop-number-init c =
-    let s = c in
-    let a = s.args in
+    let a = c.args in
     let w = c.width_of-width.ensures in
     let at = reached_at a.section a.s.now a.at a.count _ w a.p.number in (
       elim c.if-from-t.branch [ then-from-t b ↦ omega arith | else-from-t b ↦ omega arith ],
       rw w (width_le a.section),
-      elim c.if-from-t.branch [ then-from-t b ↦ omega (arith, at a.t (s.requires.3.1 a.t b.if-from-t.true)) | else-from-t b ↦ omega arith ],
-      (λ u h. elim c.if-from-t.branch [ then-from-t b ↦ omega (arith, at u (s.requires.3.1 u h)) | else-from-t b ↦ omega arith ]),
+      elim c.if-from-t.branch [ then-from-t b ↦ omega (arith, at a.t (c.requires.3.1 a.t b.if-from-t.true)) | else-from-t b ↦ omega arith ],
+      (λ u h. elim c.if-from-t.branch [ then-from-t b ↦ omega (arith, at u (c.requires.3.1 u h)) | else-from-t b ↦ omega arith ]),
     )
 
 small : (c : In-loop-number) → c.width_of-width.result * c.loop-number.number ≤ 524160
@@ -41,9 +40,8 @@ returns-then-not-time-t c =
 pub loop-number-preserved : goal.loop-number-preserved
 loop-number-preserved c =
     let l = c.loop-number in
-    let s = c in
-    let a = s.args in
-    let more = reached_up a.section a.s.now a.at a.count _ c.width_of-width.ensures l.number s.requires.2 (omega arith) _ c.f64_at-time.ensures in
+    let a = c.args in
+    let more = reached_up a.section a.s.now a.at a.count _ c.width_of-width.ensures l.number c.requires.2 (omega arith) _ c.f64_at-time.ensures in
     (omega arith, l.invariant.1, more a.t c.if-not-time-t.false, more)
 
 pub returns : goal.returns

@@ -18,8 +18,7 @@ returns-then-count-eq0 c =
 
 pub points_up_to-passed-requires : goal.points_up_to-passed-requires
 points_up_to-passed-requires c =
-    let s = c in
-    (omega arith, omega arith, rising_rest _ _ _ s.requires.2, s.requires.3.known)
+    (omega arith, omega arith, rising_rest _ _ _ c.requires.2, c.requires.3.known)
 
 pub returns : goal.returns
 returns c = found_of _ _ _ _ _ _ (λ u e. c.f64_at-value.ensures ∙ sym (beat_at_law _ _ _ u _ e (omega arith))) c.points_up_to-passed.ensures

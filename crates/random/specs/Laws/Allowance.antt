@@ -7,8 +7,8 @@ use native.Mathlib.Omega.{arith}
 use Rattle.rules.specs.Rule.{Rule, Outcome, ended, spent, run, taken, Done}
 use Rattle.rules.specs.Rule as Rule
 use Rattle.rules.specs.Ledger.{ledger, longest}
-use Rattle.rules.specs.Laws.Cut.{Within, run_within, done_within, same_start, too_few, spent_whole}
-use Rattle.rules.specs.Laws.Ledger.{same_ledger}
+use Rattle.rules.proofs.Laws.Cut.{Within, run_within, done_within, same_start, too_few, spent_whole}
+use Rattle.rules.proofs.Laws.Ledger.{same_ledger}
 use Rattle.random.specs.Generator.{next, low, values, steps}
 use Rattle.random.specs.Play.{found, refused, tallied, play_on}
 use Rattle.random.specs.Lawful.{Lawful}

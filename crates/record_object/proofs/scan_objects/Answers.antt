@@ -19,9 +19,8 @@ returns-then-refusal-ne0 c =
 pub loop-left-preserved : goal.loop-left-preserved
 unfolding start_at
 loop-left-preserved c =
-    let turn = c in
-    let l = turn.loop-left in
-    (omega arith, omega arith, rw (c.f64_at-last.ensures, c.is_long-long.ensures.0, c.object_end-here.ensures.0) (left_next _ _ _ _ _ _ _ l.invariant.2 turn.loop-left-test.true (sym c.object_refusal-refusal.ensures ∙ c.if-refusal-ne0.false)))
+    let l = c.loop-left in
+    (omega arith, omega arith, rw (c.f64_at-last.ensures, c.is_long-long.ensures.0, c.object_end-here.ensures.0) (left_next _ _ _ _ _ _ _ l.invariant.2 c.loop-left-test.true (sym c.object_refusal-refusal.ensures ∙ c.if-refusal-ne0.false)))
 
 pub returns : goal.returns
 returns c = (left_none _ _ _ _ _ _ _ c.loop-left.invariant.2 (omega arith), omega arith)

@@ -15,15 +15,11 @@ use Rattle.sheet.proofs.put_line.Goals as goal
 pub returns : goal.returns
 unfolding line_at left ascii
 returns c =
-    let feed = c in
-    let run = feed in
-    let text = run in
-    let s = text in
-    let t : List ℕ = text_at s.args.columns (notes_in s.args.chart.now) s.args.i in
+    let t : List ℕ = text_at c.args.columns (notes_in c.args.chart.now) c.args.i in
     let gap : ℕ = line_width - length t in
-    let same : line_size * s.args.i + line_width - text.put_text-end.result ≡ gap = omega (arith, text.put_text-end.ensures.value.0) in
-    let line₁ = wrote_first t text.put_text-end.ensures.s_after text.put_text-end.ensures.value.0 in
-    let line₂ = wrote_next {next = run.put_run-edge.result} (replicate gap space) line₁ (rw same at run.put_run-edge.ensures.s_after)
-    (omega (arith, run.put_run-edge.ensures.value, same, length-replicate gap space)) (search rules) in
-    let line = wrote_next (ascii "\n") line₂ feed.put_word.ensures.s_after feed.put_word.ensures.value (search rules) in
+    let same : line_size * c.args.i + line_width - c.put_text-end.result ≡ gap = omega (arith, c.put_text-end.ensures.value.0) in
+    let line₁ = wrote_first t c.put_text-end.ensures.s_after c.put_text-end.ensures.value.0 in
+    let line₂ = wrote_next {next = c.put_run-edge.result} (replicate gap space) line₁ (rw same at c.put_run-edge.ensures.s_after)
+    (omega (arith, c.put_run-edge.ensures.value, same, length-replicate gap space)) (search rules) in
+    let line = wrote_next (ascii "\n") line₂ c.put_word.ensures.s_after c.put_word.ensures.value (search rules) in
     line.bytes

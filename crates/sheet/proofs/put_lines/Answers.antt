@@ -19,21 +19,17 @@ loop-i-init c =
 
 pub put_line-requires : goal.put_line-requires
 put_line-requires c =
-    let s = c in
     let l = c.loop-i in
-    (s.requires.0, s.requires.1, omega (arith, c.loop-i-test.true, s.requires.2), omega (arith, c.loop-i-test.true, s.requires.3, l.invariant.1.0))
+    (c.requires.0, c.requires.1, omega (arith, c.loop-i-test.true, c.requires.2), omega (arith, c.loop-i-test.true, c.requires.3, l.invariant.1.0))
 
 pub loop-i-preserved : goal.loop-i-preserved
 loop-i-preserved c =
-    let put = c in
-    let in-loop = put in
-    let l = in-loop.loop-i in
-    let s = in-loop in
-    let ns = notes_in s.args.chart.now in
-    let kept : length put.put_line.new.s ≡ length s.args.s.now = put.put_line.auto.s ∙ l.invariant.1.0 in
-    let size = length_line s.args.columns ns s.requires.0 l.i (rw (← s.requires.1) (omega (arith, in-loop.loop-i-test.true, s.requires.2))) in
-    let more = wrote_next {next = line_size * (l.i + 1)} (line_at s.args.columns ns l.i) l.invariant.1.1 put.put_line.ensures (omega (arith, size)) (omega (arith, in-loop.loop-i-test.true, s.requires.3)) in
-    (omega arith, (kept, rw (lines_more s.args.columns ns l.i) more))
+    let l = c.loop-i in
+    let ns = notes_in c.args.chart.now in
+    let kept : length c.put_line.new.s ≡ length c.args.s.now = c.put_line.auto.s ∙ l.invariant.1.0 in
+    let size = length_line c.args.columns ns c.requires.0 l.i (rw (← c.requires.1) (omega (arith, c.loop-i-test.true, c.requires.2))) in
+    let more = wrote_next {next = line_size * (l.i + 1)} (line_at c.args.columns ns l.i) l.invariant.1.1 c.put_line.ensures (omega (arith, size)) (omega (arith, c.loop-i-test.true, c.requires.3)) in
+    (omega arith, (kept, rw (lines_more c.args.columns ns l.i) more))
 
 pub shape_of-s : goal.shape_of-s
 shape_of-s c = c.loop-i.invariant.1.0

@@ -19,29 +19,22 @@ joined a b r s m = simp append_assoc
 
 pub put_right-start-requires : goal.put_right-start-requires
 put_right-start-requires c =
-    let s = c in
-    (rw c.start_of.ensures (start_digits s.args.n.start s.requires.0.start), search rules)
+    (rw c.start_of.ensures (start_digits c.args.n.start c.requires.0.start), search rules)
 
 pub returns : goal.returns
 unfolding note_text deck ascii
 returns c =
-    let rest = c in
-    let note = rest in
-    let before = note in
-    let gap = before in
-    let start = gap in
-    let s = start in
-    let n = s.args.n in
+    let n = c.args.n in
     let ms = milliseconds n.start in
-    let k : ℕ = s.args.columns - (n.column + 1) in
+    let k : ℕ = c.args.columns - (n.column + 1) in
     let m : ℕ = mark n.hold in
-    let line₁ = wrote_first {at = start.put_right-start.result} (right start_width ms) (rw start.start_of.ensures at start.put_right-start.ensures.s_after)
-    (omega (arith, start.put_right-start.ensures.value, length_right start_width ms (start_digits n.start s.requires.0.start))) in
-    let line₂ = wrote_next (ascii " ") line₁ gap.put_word-gap.ensures.s_after gap.put_word-gap.ensures.value (search rules) in
-    let line₃ = wrote_next {next = before.put_run-before.result} (replicate n.column no_note) line₂ before.put_run-before.ensures.s_after
-    (omega (arith, before.put_run-before.ensures.value, length-replicate n.column no_note)) (search rules) in
-    let line₄ = wrote_next {next = note.put_run-note.result} (m ∷ []) line₃ (rw note.mark_of.ensures at note.put_run-note.ensures.s_after) note.put_run-note.ensures.value (search rules) in
-    let line = wrote_next {next = rest.put_run.result} (replicate k no_note) line₄ rest.put_run.ensures.s_after
-    (omega (arith, rest.put_run.ensures.value, length-replicate k no_note)) (search rules) in
+    let line₁ = wrote_first {at = c.put_right-start.result} (right start_width ms) (rw c.start_of.ensures at c.put_right-start.ensures.s_after)
+    (omega (arith, c.put_right-start.ensures.value, length_right start_width ms (start_digits n.start c.requires.0.start))) in
+    let line₂ = wrote_next (ascii " ") line₁ c.put_word-gap.ensures.s_after c.put_word-gap.ensures.value (search rules) in
+    let line₃ = wrote_next {next = c.put_run-before.result} (replicate n.column no_note) line₂ c.put_run-before.ensures.s_after
+    (omega (arith, c.put_run-before.ensures.value, length-replicate n.column no_note)) (search rules) in
+    let line₄ = wrote_next {next = c.put_run-note.result} (m ∷ []) line₃ (rw c.mark_of.ensures at c.put_run-note.ensures.s_after) c.put_run-note.ensures.value (search rules) in
+    let line = wrote_next {next = c.put_run.result} (replicate k no_note) line₄ c.put_run.ensures.s_after
+    (omega (arith, c.put_run.ensures.value, length-replicate k no_note)) (search rules) in
     let all = joined (right start_width ms) (replicate n.column no_note) (replicate k no_note) space m in
-    record { value = line.next ∙ ap (λ (t : List ℕ). s.args.at + length t) all; s_after = line.bytes ∙ ap (splice s.args.s.now s.args.at) all }
+    record { value = line.next ∙ ap (λ (t : List ℕ). c.args.at + length t) all; s_after = line.bytes ∙ ap (splice c.args.s.now c.args.at) all }

@@ -16,14 +16,10 @@ size c = length_lines c.args.columns (notes_in c.args.chart.now) c.requires.0 (p
 
 pub returns-then-s-size : goal.returns-then-s-size
 returns-then-s-size c =
-    let s = c in
     too_short _ _ (rw (size (goal.at.returns-then-s-size c).Start, ← c.pages_of-end.ensures) c.if-s-size.true)
 
 pub returns : goal.returns
 returns c =
-    let put = c in
-    let else = put in
-    let s = else in
-    let fits = rw else.pages_of-end.ensures at else.if-s-size.false in
-    let text = lines s.args.columns (notes_in s.args.chart.now) (page_lines * pages s.args.count) in
-    rw (put.put_lines.ensures, else.pages_of-end.ensures) (rw (size (goal.at.returns c).Start) at (in_buffer text s.args.s.now (rw (size (goal.at.returns c).Start) fits)))
+    let fits = rw c.pages_of-end.ensures at c.if-s-size.false in
+    let text = lines c.args.columns (notes_in c.args.chart.now) (page_lines * pages c.args.count) in
+    rw (c.put_lines.ensures, c.pages_of-end.ensures) (rw (size (goal.at.returns c).Start) at (in_buffer text c.args.s.now (rw (size (goal.at.returns c).Start) fits)))

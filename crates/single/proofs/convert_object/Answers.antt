@@ -2,7 +2,7 @@
 use mathlib.Core.Path.{sym, ap, ◌∙◌}
 use Prim.Native.Nat.{ℕ}
 use Rattle.mania.specs.Single.{Single, refusing}
-use Rattle.mania.specs.Laws.Singles.{single_checked}
+use Rattle.mania.proofs.Laws.Singles.{single_checked}
 use Rattle.single.proofs.convert_object.Goals as goal
 
 pub returns-then-number-ne0 : goal.returns-then-number-ne0

@@ -3,7 +3,7 @@ use mathlib.Core.Path.{sym, ap, ◌∙◌, subst}
 use native.Mathlib.Nat.{le_trans}
 use native.Mathlib.Omega.{arith}
 use Rattle.mania.specs.Single.{refusing}
-use Rattle.mania.specs.Laws.Singles.{single_refused}
+use Rattle.mania.proofs.Laws.Singles.{single_refused}
 use Rattle.pattern.specs.Answers.{object_end}
 use Rattle.object.specs.Notes.{note_at}
 use Rattle.object.specs.Contract.{OnDeck}
@@ -12,40 +12,34 @@ use Rattle.single.proofs.generate.Goals as goal
 
 pub generate-requires : goal.generate-requires
 generate-requires c =
-    let s = c in
-    asks s.args.f s.args.v s.args.columns s.args.o _ _ s.requires (omega arith) (omega arith)
+    asks c.args.f c.args.v c.args.columns c.args.o _ _ c.requires (omega arith) (omega arith)
 
 pub keep-requires : goal.keep-requires
 keep-requires c =
-    let k = c in
-    let s = k in
-    let n = k.generate in
-    let v = k.in-Made in
+    let n = c.generate in
+    let v = c.in-Made in
     let words = n.new.words in
-    let on_deck = subst (OnDeck s.args.columns) v.is n.ensures.deck in (
+    let on_deck = subst (OnDeck c.args.columns) v.is n.ensures.deck in (
       on_deck.0,
       omega arith,
-      left_in s.args.f s.args.v s.args.columns s.args.o s.args.lent s.args.allowance words v.p v.stair v.e
-          (ap (object_end (note_at s.args.o) words) (sym v.is) ∙ n.ensures.says),
+      left_in c.args.f c.args.v c.args.columns c.args.o c.args.lent c.args.allowance words v.p v.stair v.e
+          (ap (object_end (note_at c.args.o) words) (sym v.is) ∙ n.ensures.says),
     )
 
 pub returns-in-Made : goal.returns-in-Made
 returns-in-Made c =
-    let k = c in
-    let s = k in
-    let n = k.generate in
-    let v = k.in-Made in
+    let n = c.generate in
+    let v = c.in-Made in
     let words = n.new.words in
-    let on_deck = subst (OnDeck s.args.columns) v.is n.ensures.deck in
-    ended_single s.args.f s.args.v s.args.columns s.args.o s.args.lent s.args.allowance s.args.notes.now c.keep.new.notes words
-    v.p v.stair v.e s.requires (le_trans on_deck.0 (omega arith)) (ap (object_end (note_at s.args.o) words) (sym v.is) ∙ n.ensures.says)
+    let on_deck = subst (OnDeck c.args.columns) v.is n.ensures.deck in
+    ended_single c.args.f c.args.v c.args.columns c.args.o c.args.lent c.args.allowance c.args.notes.now c.keep.new.notes words
+    v.p v.stair v.e c.requires (le_trans on_deck.0 (omega arith)) (ap (object_end (note_at c.args.o) words) (sym v.is) ∙ n.ensures.says)
     c.keep.result c.keep.ensures
 
 pub returns-in-Refused : goal.returns-in-Refused
 unfolding refusing
 returns-in-Refused c =
-    let s = c in
     let n = c.generate in
     let v = c.in-Refused in
-    sym (single_refused s.args.f s.args.v s.args.columns s.args.o s.args.lent s.args.allowance s.args.notes.now s.requires v.n v.e
-    (sym (ap (object_end (note_at s.args.o) n.new.words) (sym v.is) ∙ n.ensures.says)))
+    sym (single_refused c.args.f c.args.v c.args.columns c.args.o c.args.lent c.args.allowance c.args.notes.now c.requires v.n v.e
+    (sym (ap (object_end (note_at c.args.o) n.new.words) (sym v.is) ∙ n.ensures.says)))

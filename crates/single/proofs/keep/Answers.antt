@@ -16,6 +16,5 @@ returns-then-notes-count c =
 
 pub returns : goal.returns
 returns c =
-    let k = c in
-    let a = k.args in
-    kept (le-ltb (length a.notes.now) (note_size * a.p.count) (omega arith)) (k.put_notes.ensures ∙ splice_start a.notes.now _) refl
+    let a = c.args in
+    kept (le-ltb (length a.notes.now) (note_size * a.p.count) (omega arith)) (c.put_notes.ensures ∙ splice_start a.notes.now _) refl

@@ -13,9 +13,8 @@ put_slider_note-requires c =
 
 pub returns-then-columns-gt2 : goal.returns-then-columns-gt2
 returns-then-columns-gt2 c =
-    let k = c in
-    let o = k.other_column-other.ensures in
-    record { is = k.put_slider_note.ensures.is ∙ rw (lt-ltb _ _ k.if-columns-gt2.true, o); more = omega (arith, k.put_slider_note.ensures.more) }
+    let o = c.other_column-other.ensures in
+    record { is = c.put_slider_note.ensures.is ∙ rw (lt-ltb _ _ c.if-columns-gt2.true, o); more = omega (arith, c.put_slider_note.ensures.more) }
 
 pub returns : goal.returns
 returns c = record { is = rw (le-ltb _ _ c.if-columns-gt2.false); more = omega arith }

@@ -20,7 +20,7 @@ head : (c : In-Given) → let a = c.args in on (head_column a.g a.g.flags) a.d �
 head c = sym c.head_column.ensures ∙ ap number c.in-Given.is
 
 deck : (c : In-Given) → c.in-Given.hold < c.args.g.columns
-deck c = let s = c in head_lt s.args.g s.args.g.flags (omega (arith, s.requires.0.low)) _ _ _ (head c)
+deck c = head_lt c.args.g c.args.g.flags (omega (arith, c.requires.0.low)) _ _ _ (head c)
 
 pub put_slider_note-p-requires : goal.put_slider_note-p-requires
 put_slider_note-p-requires c =
@@ -32,48 +32,35 @@ overflow_sub-g c = omega (arith, c.requires.0.low)
 
 pub add_besides-requires : goal.add_besides-requires
 add_besides-requires c =
-    let n = c in
-    let a = c in
-    let p = a in
-    let s = c in
-    let fit = fits_kept _ _ s.requires.0 _ p.put_slider_note-p.auto.words in
-    let six = beside_small _ _ _ _ (sym c.beside_count.ensures ∙ ap number n.in-Given-beside_count.is) in (
+    let fit = fits_kept _ _ c.requires.0 _ c.put_slider_note-p.auto.words in
+    let six = beside_small _ _ _ _ (sym c.beside_count.ensures ∙ ap number c.in-Given-beside_count.is) in (
       omega (arith, fit.low),
       fit.high,
-      any_on_deck _ (omega (arith, fit.low)) _ _ _ (sym a.any_column.ensures ∙ ap number c.in-Given-any_column.is),
+      any_on_deck _ (omega (arith, fit.low)) _ _ _ (sym c.any_column.ensures ∙ ap number c.in-Given-any_column.is),
       fit.times,
-      omega (arith, p.put_slider_note-p.ensures.more, s.requires.1, fit.room),
+      omega (arith, c.put_slider_note-p.ensures.more, c.requires.1, fit.room),
       omega (arith, deck (goal.at.add_besides-requires c).In-Given, fit.high),
-      omega (arith, c.least-k.ensures, min-le_left n.in-Given-beside_count.n (s.args.g.columns - 1), six),
+      omega (arith, c.least-k.ensures, min-le_left c.in-Given-beside_count.n (c.args.g.columns - 1), six),
     )
 
 pub returns-in-Given-beside_count : goal.returns-in-Given-beside_count
 returns-in-Given-beside_count c =
-    let a = c in
-    let p = a in
-    let k = p in
     places _ _ _ _ _ _ c.add_besides.ensures
     (sym
-    (normal_found _ _ _ _ (head (goal.at.returns-in-Given-beside_count c).In-Given) (deck (goal.at.returns-in-Given-beside_count c).In-Given) _ _ (empty_is of_word _) p.put_slider_note-p.ensures.is _ _ (sym a.any_column.ensures ∙ ap number c.in-Given-any_column.is) _ _ _ _
+    (normal_found _ _ _ _ (head (goal.at.returns-in-Given-beside_count c).In-Given) (deck (goal.at.returns-in-Given-beside_count c).In-Given) _ _ (empty_is of_word _) c.put_slider_note-p.ensures.is _ _ (sym c.any_column.ensures ∙ ap number c.in-Given-any_column.is) _ _ _ _
     (ap not c.has_flag-bare.ensures) c.least-k.ensures (sym c.beside_count.ensures ∙ ap number c.in-Given-beside_count.is)))
-    (omega (arith, p.put_slider_note-p.ensures.more, c.requires.1))
+    (omega (arith, c.put_slider_note-p.ensures.more, c.requires.1))
 
 pub returns-in-Refused-beside_count : goal.returns-in-Refused-beside_count
 returns-in-Refused-beside_count c =
-    let a = c in
-    let p = a in
-    let k = p in
     stops _ _ _ _ _
-    (count_stop _ _ _ _ (head (goal.at.returns-in-Refused-beside_count c).In-Given) (deck (goal.at.returns-in-Refused-beside_count c).In-Given) _ _ (empty_is of_word _) p.put_slider_note-p.ensures.is _ _ (sym a.any_column.ensures ∙ ap number c.in-Given-any_column.is) _ _
+    (count_stop _ _ _ _ (head (goal.at.returns-in-Refused-beside_count c).In-Given) (deck (goal.at.returns-in-Refused-beside_count c).In-Given) _ _ (empty_is of_word _) c.put_slider_note-p.ensures.is _ _ (sym c.any_column.ensures ∙ ap number c.in-Given-any_column.is) _ _
     (sym c.beside_count.ensures ∙ ap number c.in-Refused-beside_count.is))
 
 pub returns-in-Refused-any_column : goal.returns-in-Refused-any_column
 returns-in-Refused-any_column c =
-    let a = c in
-    let p = a in
-    let k = p in
     stops _ _ _ _ _
-    (column_stop _ _ _ _ (head (goal.at.returns-in-Refused-any_column c).In-Given) (deck (goal.at.returns-in-Refused-any_column c).In-Given) _ _ (empty_is of_word _) p.put_slider_note-p.ensures.is _ _ (sym a.any_column.ensures ∙ ap number c.in-Refused-any_column.is))
+    (column_stop _ _ _ _ (head (goal.at.returns-in-Refused-any_column c).In-Given) (deck (goal.at.returns-in-Refused-any_column c).In-Given) _ _ (empty_is of_word _) c.put_slider_note-p.ensures.is _ _ (sym c.any_column.ensures ∙ ap number c.in-Refused-any_column.is))
 
 pub returns-in-Refused : goal.returns-in-Refused
 returns-in-Refused c = stops _ _ _ _ _ (normal_stop _ _ _ _ (sym c.head_column.ensures ∙ ap number c.in-Refused.is))

@@ -20,13 +20,11 @@ least-le k m n e h = omega (arith, min-le_right m n)
 
 pub add_holds-requires : goal.add_holds-requires
 add_holds-requires c =
-    let a = c in
-    let s = a in
-    let fit = s.requires.0 in
-    let off = least-le _ _ _ a.holds_off-off.ensures s.requires.1 in (
+    let fit = c.requires.0 in
+    let off = least-le _ _ _ c.holds_off-off.ensures c.requires.1 in (
       omega (arith, fit.low),
       fit.high,
-      any_on_deck _ (omega (arith, fit.low)) _ _ _ (sym a.any_column.ensures ∙ ap number c.in-Given.is),
+      any_on_deck _ (omega (arith, fit.low)) _ _ _ (sym c.any_column.ensures ∙ ap number c.in-Given.is),
       omega (arith, fit.times),
       fit.ends,
       omega (arith, fit.room, off),
@@ -34,63 +32,48 @@ add_holds-requires c =
 
 pub add_holds-requires-in-Notes : goal.add_holds-requires-in-Notes
 add_holds-requires-in-Notes c =
-    let f = c in
-    let a = f in
-    let s = a in
-    let fit = fits_kept _ _ s.requires.0 _ f.add_holds.auto.words in
+    let fit = fits_kept _ _ c.requires.0 _ c.add_holds.auto.words in
     let r = c.in-Notes.is in
-    let off = least-le _ _ _ a.holds_off-off.ensures s.requires.1 in
-    let few = subst (λ (x : Reached). many' x ≤ 0 + a.holds_off-off.result) r f.add_holds.ensures.few in (
+    let off = least-le _ _ _ c.holds_off-off.ensures c.requires.1 in
+    let few = subst (λ (x : Reached). many' x ≤ 0 + c.holds_off-off.result) r c.add_holds.ensures.few in (
       omega (arith, fit.low),
       fit.high,
-      subst (λ (x : Reached). at x < s.args.g.columns) r f.add_holds.ensures.deck,
+      subst (λ (x : Reached). at x < c.args.g.columns) r c.add_holds.ensures.deck,
       omega (arith, fit.times),
       fit.ends,
-      omega (arith, fit.room, off, few, a.holds_over-over.ensures.1),
+      omega (arith, fit.room, off, few, c.holds_over-over.ensures.1),
     )
 
 pub returns-in-Notes-add_holds : goal.returns-in-Notes-add_holds
 returns-in-Notes-add_holds c =
-    let k = c in
-    let e = k in
-    let f = e in
-    let a = f in
-    let over = a in
-    let off = a in
     record {
       says =
           sym
-          (holds_found _ _ _ _ _ (sym a.any_column.ensures ∙ ap number f.in-Given.is) _ (empty_is of_word _) _ _ off.holds_off-off.ensures
-          over.holds_over-over.ensures.0 _ _ _ (sym f.add_holds.ensures.says ∙ ap (reached f.add_holds.new.words) e.in-Notes.is) _ _ _
-          (sym k.add_holds-in-Notes.ensures.says ∙ ap (reached k.add_holds-in-Notes.new.words) c.in-Notes-add_holds.is));
+          (holds_found _ _ _ _ _ (sym c.any_column.ensures ∙ ap number c.in-Given.is) _ (empty_is of_word _) _ _ c.holds_off-off.ensures
+          c.holds_over-over.ensures.0 _ _ _ (sym c.add_holds.ensures.says ∙ ap (reached c.add_holds.new.words) c.in-Notes.is) _ _ _
+          (sym c.add_holds-in-Notes.ensures.says ∙ ap (reached c.add_holds-in-Notes.new.words) c.in-Notes-add_holds.is));
       few =
           omega (
             arith,
-            subst (λ (x : Reached). many' x ≤ e.in-Notes.p.count + over.holds_over-over.result) c.in-Notes-add_holds.is k.add_holds-in-Notes.ensures.few,
-            subst (λ (x : Reached). many' x ≤ 0 + off.holds_off-off.result) e.in-Notes.is f.add_holds.ensures.few,
-            over.holds_over-over.ensures.1,
-            least-le _ _ _ off.holds_off-off.ensures off.requires.1,
+            subst (λ (x : Reached). many' x ≤ c.in-Notes.p.count + c.holds_over-over.result) c.in-Notes-add_holds.is c.add_holds-in-Notes.ensures.few,
+            subst (λ (x : Reached). many' x ≤ 0 + c.holds_off-off.result) c.in-Notes.is c.add_holds.ensures.few,
+            c.holds_over-over.ensures.1,
+            least-le _ _ _ c.holds_off-off.ensures c.requires.1,
           );
     }
 
 pub returns-in-Refused-add_holds-2 : goal.returns-in-Refused-add_holds-2
 returns-in-Refused-add_holds-2 c =
-    let k = c in
-    let e = k in
-    let f = e in
-    let a = f in
     stops _ _ _ _ _
-    (over_stop _ _ _ _ _ (sym a.any_column.ensures ∙ ap number f.in-Given.is) _ (empty_is of_word _) _ _ a.holds_off-off.ensures
-    a.holds_over-over.ensures.0 _ _ _ (sym f.add_holds.ensures.says ∙ ap (reached f.add_holds.new.words) e.in-Notes.is) _ _
-    (sym k.add_holds-in-Notes.ensures.says ∙ ap (reached k.add_holds-in-Notes.new.words) c.in-Refused-add_holds-2.is))
+    (over_stop _ _ _ _ _ (sym c.any_column.ensures ∙ ap number c.in-Given.is) _ (empty_is of_word _) _ _ c.holds_off-off.ensures
+    c.holds_over-over.ensures.0 _ _ _ (sym c.add_holds.ensures.says ∙ ap (reached c.add_holds.new.words) c.in-Notes.is) _ _
+    (sym c.add_holds-in-Notes.ensures.says ∙ ap (reached c.add_holds-in-Notes.new.words) c.in-Refused-add_holds-2.is))
 
 pub returns-in-Refused-add_holds : goal.returns-in-Refused-add_holds
 returns-in-Refused-add_holds c =
-    let f = c in
-    let a = f in
     stops _ _ _ _ _
-    (off_stop _ _ _ _ _ (sym a.any_column.ensures ∙ ap number f.in-Given.is) _ (empty_is of_word _) _ _ a.holds_off-off.ensures
-    a.holds_over-over.ensures.0 _ _ (sym f.add_holds.ensures.says ∙ ap (reached f.add_holds.new.words) c.in-Refused-add_holds.is))
+    (off_stop _ _ _ _ _ (sym c.any_column.ensures ∙ ap number c.in-Given.is) _ (empty_is of_word _) _ _ c.holds_off-off.ensures
+    c.holds_over-over.ensures.0 _ _ (sym c.add_holds.ensures.says ∙ ap (reached c.add_holds.new.words) c.in-Refused-add_holds.is))
 
 pub returns-in-Refused : goal.returns-in-Refused
 returns-in-Refused c = stops _ _ _ _ _ (holds_stop _ _ _ _ _ (sym c.any_column.ensures ∙ ap number c.in-Refused.is))

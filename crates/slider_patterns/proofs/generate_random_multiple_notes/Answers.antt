@@ -28,26 +28,23 @@ overflow_sub-g c =
 
 pub next_int_range-interval-requires : goal.next_int_range-interval-requires
 next_int_range-interval-requires c =
-    let s = c in
     let k = c.legacy-legacy.ensures in
-    let l = legacy_lt s.args.g.columns s.requires.low in
-    (took_small _ _ _ (got (goal.at.next_int_range-interval-requires c).In-Value), omega arith, omega (arith, s.requires.high))
+    let l = legacy_lt c.args.g.columns c.requires.low in
+    (took_small _ _ _ (got (goal.at.next_int_range-interval-requires c).In-Value), omega arith, omega (arith, c.requires.high))
 
 pub add_rows-requires : goal.add_rows-requires
 add_rows-requires c =
-    let s = c in
-    let fit = s.requires in
+    let fit = c.requires in
     let own = c.get_column-c.ensures in
-    let low : 1 ≤ s.args.g.columns = omega (arith, fit.low) in
+    let low : 1 ≤ c.args.g.columns = omega (arith, fit.low) in
     let k = c.legacy-legacy.ensures in
-    let l = legacy_lt s.args.g.columns fit.low in
+    let l = legacy_lt c.args.g.columns fit.low in
     let i = c.next_int_range-interval.ensures in
-    let top = between_lt {lower = 1} {upper = s.args.g.columns - c.legacy-legacy.result} (took_small _ _ _ (got (goal.at.add_rows-requires c).In-Value)) (omega arith) in
-    (low, fit.high, rw own (get_column_lt s.args.g.x s.args.g.columns low), fit.times, omega (arith, fit.spans, fit.room), omega arith)
+    let top = between_lt {lower = 1} {upper = c.args.g.columns - c.legacy-legacy.result} (took_small _ _ _ (got (goal.at.add_rows-requires c).In-Value)) (omega arith) in
+    (low, fit.high, rw own (get_column_lt c.args.g.x c.args.g.columns low), fit.times, omega (arith, fit.spans, fit.room), omega arith)
 
 pub returns : goal.returns
 returns c =
-    let s = c in
     places _ _ _ _ _ _ c.add_rows.ensures
     (sym (rows_found _ _ _ _ _ _ _ _ (empty_is of_word _) (got (goal.at.returns c).In-Value) c.legacy-legacy.ensures c.next_int_range-interval.ensures c.get_column-c.ensures))
-    (omega (arith, s.requires.spans))
+    (omega (arith, c.requires.spans))

@@ -11,10 +11,9 @@ use Rattle.slider_patterns.proofs.generate_random_notes.Goals as goal
 
 pub add_row-requires : goal.add_row-requires
 add_row-requires c =
-    let s = c in
-    let fit = s.requires.0 in
-    let l : 1 ≤ s.args.g.columns = omega (arith, fit.low) in
-    (l, fit.high, head_lt s.args.g s.args.flags l _ _ _ (sym c.head_column.ensures ∙ ap number c.in-Given.is), times_le _ _ fit _ s.requires.1, omega (arith, fit.spans, fit.room, s.requires.1))
+    let fit = c.requires.0 in
+    let l : 1 ≤ c.args.g.columns = omega (arith, fit.low) in
+    (l, fit.high, head_lt c.args.g c.args.flags l _ _ _ (sym c.head_column.ensures ∙ ap number c.in-Given.is), times_le _ _ fit _ c.requires.1, omega (arith, fit.spans, fit.room, c.requires.1))
 
 pub returns-in-Given : goal.returns-in-Given
 returns-in-Given c =

@@ -22,16 +22,14 @@ returns-in_default c = stops _ _ _ _ _ (stair_spent _ _ (sym c.draw.ensures ∙ 
 
 pub add_stair-requires : goal.add_stair-requires
 add_stair-requires c =
-    let s = c in
-    let fit = s.requires in
+    let fit = c.requires in
     let own = c.get_column-c.ensures in
-    let l : 1 ≤ s.args.g.columns = omega (arith, fit.low) in
-    (fit.low, fit.high, rw own (get_column_lt s.args.g.x s.args.g.columns l), fit.times, omega (arith, fit.spans, fit.room))
+    let l : 1 ≤ c.args.g.columns = omega (arith, fit.low) in
+    (fit.low, fit.high, rw own (get_column_lt c.args.g.x c.args.g.columns l), fit.times, omega (arith, fit.spans, fit.room))
 
 pub returns : goal.returns
 unfolding round of_bits
 returns c =
-    let s = c in
     places _ _ _ _ _ _ c.add_stair.ensures
     (sym (stair_found _ _ _ _ _ _ _ (empty_is of_word _) (got (goal.at.returns c).In-Value) c.next_double-chance.ensures c.get_column-c.ensures))
-    (omega (arith, s.requires.spans))
+    (omega (arith, c.requires.spans))

@@ -12,12 +12,11 @@ use Rattle.slider_patterns.proofs.generate_tiled_hold_notes.Goals as goal
 
 pub add_tiles-requires : goal.add_tiles-requires
 add_tiles-requires c =
-    let s = c in
-    let fit = s.requires in
-    let l : 1 ≤ s.args.g.columns = omega (arith, fit.low) in
+    let fit = c.requires in
+    let l : 1 ≤ c.args.g.columns = omega (arith, fit.low) in
     let n = c.least-n.ensures in
-    let few = min-le_left s.args.g.spans s.args.g.columns in
-    (l, fit.high, head_lt s.args.g s.args.g.flags l _ _ _ (sym c.head_column.ensures ∙ ap number c.in-Given.is), times_le _ _ fit _ (omega (arith, n, few)), omega (arith, n, few, fit.spans, fit.room), end_lt _ _ fit)
+    let few = min-le_left c.args.g.spans c.args.g.columns in
+    (l, fit.high, head_lt c.args.g c.args.g.flags l _ _ _ (sym c.head_column.ensures ∙ ap number c.in-Given.is), times_le _ _ fit _ (omega (arith, n, few)), omega (arith, n, few, fit.spans, fit.room), end_lt _ _ fit)
 
 pub returns-in-Given : goal.returns-in-Given
 returns-in-Given c =

@@ -7,8 +7,7 @@ use Rattle.slider_patterns.proofs.head_column.Goals as goal
 
 pub find_column-requires : goal.find_column-requires
 find_column-requires c =
-    let s = c in
-    omega (arith, c.get_column-own.ensures, get_column_lt s.args.g.x s.args.g.columns s.requires.0, s.requires.0, s.requires.1)
+    omega (arith, c.get_column-own.ensures, get_column_lt c.args.g.x c.args.g.columns c.requires.0, c.requires.0, c.requires.1)
 
 pub returns-then-is_moved : goal.returns-then-is_moved
 returns-then-is_moved c =

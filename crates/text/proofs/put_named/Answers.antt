@@ -7,8 +7,5 @@ use Rattle.text.proofs.put_named.Goals as goal
 pub returns : goal.returns
 unfolding named
 returns c =
-    let last = c in
-    let first = last in
-    let start = first in
-    let line = wrote_next (decimal start.args.n) (wrote_first start.args.word.now first.put_word-a.ensures.s_after first.put_word-a.ensures.value) last.put_decimal.ensures.s_after last.put_decimal.ensures.value.0 (search rules) in
+    let line = wrote_next (decimal c.args.n) (wrote_first c.args.word.now c.put_word-a.ensures.s_after c.put_word-a.ensures.value) c.put_decimal.ensures.s_after c.put_decimal.ensures.value.0 (search rules) in
     record { value = (line.next, search rules); s_after = line.bytes }

@@ -12,13 +12,10 @@ use Rattle.text.proofs.put_right.Goals as goal
 pub returns : goal.returns
 unfolding right decimal
 returns c =
-    let put = c in
-    let run = c in
-    let k = run in
-    let a = k.args in
-    let size : k.places-k.result ≡ places a.n (ltb a.n 10) a.n = k.places-k.ensures.0 ∙ length_digits 10 (places a.n (ltb a.n 10) a.n) a.n in
+    let a = c.args in
+    let size : c.places-k.result ≡ places a.n (ltb a.n 10) a.n = c.places-k.ensures.0 ∙ length_digits 10 (places a.n (ltb a.n 10) a.n) a.n in
     let gap : ℕ = a.width - length (decimal a.n) in
-    let same : a.width - k.places-k.result ≡ gap = rw k.places-k.ensures.0 in
-    let spaces = wrote_first {at = run.put_run-first.result} (replicate gap space) (rw same at run.put_run-first.ensures.s_after) (omega (arith, run.put_run-first.ensures.value, length-replicate gap space)) in
-    let line = wrote_next {next = run.put_run-first.result + k.places-k.result} (decimal a.n) spaces (rw size at put.put_digits.ensures) (omega (arith, k.places-k.ensures.0)) (search rules) in
-    record { value = omega (arith, run.put_run-first.ensures.value, k.places-k.ensures.0); s_after = line.bytes }
+    let same : a.width - c.places-k.result ≡ gap = rw c.places-k.ensures.0 in
+    let spaces = wrote_first {at = c.put_run-first.result} (replicate gap space) (rw same at c.put_run-first.ensures.s_after) (omega (arith, c.put_run-first.ensures.value, length-replicate gap space)) in
+    let line = wrote_next {next = c.put_run-first.result + c.places-k.result} (decimal a.n) spaces (rw size at c.put_digits.ensures) (omega (arith, c.places-k.ensures.0)) (search rules) in
+    record { value = omega (arith, c.put_run-first.ensures.value, c.places-k.ensures.0); s_after = line.bytes }

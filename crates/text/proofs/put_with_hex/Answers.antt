@@ -8,8 +8,5 @@ use Rattle.text.proofs.put_with_hex.Goals as goal
 pub returns : goal.returns
 unfolding with_hex
 returns c =
-    let last = c in
-    let first = last in
-    let start = first in
-    let line = wrote_next (hex start.args.bits) (wrote_first start.args.word.now first.put_word-a.ensures.s_after first.put_word-a.ensures.value) last.put_hex.ensures.s_after (last.put_hex.ensures.value ∙ rw (length_hex start.args.bits)) (search rules) in
+    let line = wrote_next (hex c.args.bits) (wrote_first c.args.word.now c.put_word-a.ensures.s_after c.put_word-a.ensures.value) c.put_hex.ensures.s_after (c.put_hex.ensures.value ∙ rw (length_hex c.args.bits)) (search rules) in
     record { value = (line.next, search rules); s_after = line.bytes }

@@ -18,29 +18,24 @@ deck c = c.generate.ensures.deck
 
 pub finish-requires : goal.finish-requires
 finish-requires c =
-    let k = c in
-    let s = k in
-    let on_deck = subst (OnDeck s.args.g.columns) k.in-Made.is (deck (goal.at.finish-requires c).In-Made) in
-    (s.requires.0, k.meet-m.ensures.held, on_deck.0, omega (arith, s.requires.6), s.requires.5)
+    let on_deck = subst (OnDeck c.args.g.columns) c.in-Made.is (deck (goal.at.finish-requires c).In-Made) in
+    (c.requires.0, c.meet-m.ensures.held, on_deck.0, omega (arith, c.requires.6), c.requires.5)
 
 pub returns-in-Made : goal.returns-in-Made
 returns-in-Made c =
-    let k = c in
-    let s = k in
-    let m = k.meet-m in
-    let n = k.generate in
-    let v = k.in-Made in
+    let m = c.meet-m in
+    let n = c.generate in
+    let v = c.in-Made in
     let words = n.new.words in
-    let size : most_notes ≤ length words = omega (arith, s.requires.6) in
-    finished s.args.chart.now c.finish.new.chart words s.args.index s.args.g s.args.c s.args.w s.args.o s.args.d v.e m.result
-    v.p v.stair m.ensures size (subst (OnDeck s.args.g.columns) v.is (deck (goal.at.returns-in-Made c).In-Made))
-    (ap (object_end (note_at s.args.o) words) (sym v.is) ∙ n.ensures.says) c.finish.result c.finish.ensures
+    let size : most_notes ≤ length words = omega (arith, c.requires.6) in
+    finished c.args.chart.now c.finish.new.chart words c.args.index c.args.g c.args.c c.args.w c.args.o c.args.d v.e m.result
+    v.p v.stair m.ensures size (subst (OnDeck c.args.g.columns) v.is (deck (goal.at.returns-in-Made c).In-Made))
+    (ap (object_end (note_at c.args.o) words) (sym v.is) ∙ n.ensures.says) c.finish.result c.finish.ensures
 
 pub returns-in-Refused : goal.returns-in-Refused
 returns-in-Refused c =
-    let s = c in
     let m = c.meet-m in
     let n = c.generate in
     let v = c.in-Refused in
-    refused_step s.args.chart.now s.args.g s.args.c s.args.w s.args.o s.args.d v.e m.result v.n m.ensures
-    (ap (object_end (note_at s.args.o) n.new.words) (sym v.is) ∙ n.ensures.says)
+    refused_step c.args.chart.now c.args.g c.args.c c.args.w c.args.o c.args.d v.e m.result v.n m.ensures
+    (ap (object_end (note_at c.args.o) n.new.words) (sym v.is) ∙ n.ensures.says)

@@ -5,5 +5,4 @@ use Rattle.walk.proofs.finish.Goals as goal
 
 pub returns : goal.returns
 returns c =
-    let k = c in
-    (twice _ _ _ _ _ _ _ _ _ _ k.keep-kept.result.fits k.keep-kept.ensures, refl, refl)
+    (twice _ _ _ _ _ _ _ _ _ _ c.keep-kept.result.fits c.keep-kept.ensures, refl, refl)

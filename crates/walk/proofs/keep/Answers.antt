@@ -13,6 +13,5 @@ returns-then-chart-before c =
 
 pub returns : goal.returns
 returns c =
-    let k = c in
-    let a = k.args in
-    (le-ltb (length a.chart.now) (chart_size (a.w.notes + a.p.count)) (omega arith), k.put_notes.ensures, c.after_object-walk.ensures.0, c.after_object-walk.ensures.1)
+    let a = c.args in
+    (le-ltb (length a.chart.now) (chart_size (a.w.notes + a.p.count)) (omega arith), c.put_notes.ensures, c.after_object-walk.ensures.0, c.after_object-walk.ensures.1)

@@ -16,11 +16,10 @@ use Rattle.walk.proofs.walk_objects.Goals.{After-convert_object-s}
 
 pub loop-i-init : goal.loop-i-init
 loop-i-init c =
-    let s = c in
-    let a = s.args in
+    let a = c.args in
     let b = c.beginning-w in (
       at_start a.points.now a.part.now a.chart.now a.g a.at a.count a.d b.result b.ensures.1
-          (begun a.g.columns b.result b.ensures.1 b.ensures.0 s.requires.0.low) s.requires.2 s.requires.4 s.requires.1,
+          (begun a.g.columns b.result b.ensures.1 b.ensures.0 c.requires.0.low) c.requires.2 c.requires.4 c.requires.1,
       c.none_in_force-c.ensures _ _,
       refl,
       refl,
@@ -44,18 +43,16 @@ next_is s at r e = ap (λ (x : ReadObject). x.next) e
 
 pub convert_object-s-requires : goal.convert_object-s-requires
 convert_object-s-requires c =
-    let r = c in
-    let l = r.loop-i in
-    let s = r in
-    let a = s.args in (
-      omega (arith, s.requires.3),
-      s.requires.0.low,
-      s.requires.0.high,
+    let l = c.loop-i in
+    let a = c.args in (
+      omega (arith, c.requires.3),
+      c.requires.0.low,
+      c.requires.0.high,
       l.invariant.0.sound,
       subst InRange (sym (object_is _ _ _ c.read_object-read.ensures.0)) (in_range_law a.points.now a.part.now a.chart.now a.g a.at a.count a.d l.chart l.w l.here l.rest l.i (omega arith) l.invariant.0),
-      omega (arith, l.invariant.0.few, s.requires.3),
-      omega (arith, s.requires.5),
-      omega (arith, s.requires.6),
+      omega (arith, l.invariant.0.few, c.requires.3),
+      omega (arith, c.requires.5),
+      omega (arith, c.requires.6),
     )
 
 pub shape_of-chart-then-s : goal.shape_of-chart-then-s
@@ -82,34 +79,30 @@ facts_are : (k : After-convert_object-s)
     → facts_in k.args.g k.in_force_at-c.result k.loop-i.w (read_object k.args.part.now k.loop-i.here)
     ≡ facts_at (given_facts k.args.points.now k.args.g) (density_at k.loop-i.w (read_object k.args.part.now k.loop-i.here)) (read_object k.args.part.now k.loop-i.here)
 facts_are k =
-    let s = k in
     let f = k.in_force_at-c in
-    facts_of_law s.args.points.now s.args.g f.result _ _ (subst (λ (o : Object). InForceAt s.args.points.now s.args.g o.start f.result) (object_is _ _ _ k.read_object-read.ensures.0) f.ensures.1)
+    facts_of_law k.args.points.now k.args.g f.result _ _ (subst (λ (o : Object). InForceAt k.args.points.now k.args.g o.start f.result) (object_is _ _ _ k.read_object-read.ensures.0) f.ensures.1)
 
 pub returns-then-s : goal.returns-then-s
 returns-then-s c =
-    let k = c in
-    let l = k.loop-i in
-    let a = k.args in
+    let l = c.loop-i in
+    let a = c.args in
     at_refused a.points.now a.part.now a.chart.now a.g a.at a.count a.d l.chart l.w l.here l.rest l.i (omega arith) l.invariant.0
-    k.in_force_at-c.result (facts_are (goal.at.returns-then-s c).After-convert_object-s) k.convert_object-s.result.number k.convert_object-s.result.draws l.invariant.2 (stepped (goal.at.returns-then-s c).After-convert_object-s _ c.if-s.true)
+    c.in_force_at-c.result (facts_are (goal.at.returns-then-s c).After-convert_object-s) c.convert_object-s.result.number c.convert_object-s.result.draws l.invariant.2 (stepped (goal.at.returns-then-s c).After-convert_object-s _ c.if-s.true)
 
 pub overflow_add-i : goal.overflow_add-i
 overflow_add-i c = omega (arith, c.requires.3)
 
 pub loop-i-preserved : goal.loop-i-preserved
 loop-i-preserved c =
-    let k = c in
-    let l = k.loop-i in
-    let a = k.args in
-    let r = k in
-    let f = k.in_force_at-c in (
+    let l = c.loop-i in
+    let a = c.args in
+    let f = c.in_force_at-c in (
       at_next a.points.now a.part.now a.chart.now a.g a.at a.count a.d l.chart l.w l.here l.rest l.i (omega arith) l.invariant.0
-          f.result (facts_are (goal.at.loop-i-preserved c).After-convert_object-s) k.convert_object-s.new.chart k.convert_object-s.result.walk r.read_object-read.result.next k.convert_object-s.result.draws l.invariant.2 (stepped (goal.at.loop-i-preserved c).After-convert_object-s _ c.if-s.false) (next_is _ _ _ c.read_object-read.ensures.0) r.read_object-read.ensures.1,
+          f.result (facts_are (goal.at.loop-i-preserved c).After-convert_object-s) c.convert_object-s.new.chart c.convert_object-s.result.walk c.read_object-read.result.next c.convert_object-s.result.draws l.invariant.2 (stepped (goal.at.loop-i-preserved c).After-convert_object-s _ c.if-s.false) (next_is _ _ _ c.read_object-read.ensures.0) c.read_object-read.ensures.1,
       f.ensures.0,
-      k.convert_object-s.auto.chart ∙ l.invariant.2,
-      k.convert_object-s.auto.words ∙ l.invariant.3,
-      k.convert_object-s.auto.spare ∙ l.invariant.4,
+      c.convert_object-s.auto.chart ∙ l.invariant.2,
+      c.convert_object-s.auto.words ∙ l.invariant.3,
+      c.convert_object-s.auto.spare ∙ l.invariant.4,
     )
 
 pub shape_of-chart : goal.shape_of-chart
@@ -124,6 +117,5 @@ shape_of-spare c = c.loop-i.invariant.4
 pub returns : goal.returns
 returns c =
     let l = c.loop-i in
-    let s = c in
-    let a = s.args in
-    at_end a.points.now a.part.now a.chart.now a.g a.at a.count a.d l.chart l.w l.here l.rest l.i (omega arith) s.requires.3 l.invariant.0
+    let a = c.args in
+    at_end a.points.now a.part.now a.chart.now a.g a.at a.count a.d l.chart l.w l.here l.rest l.i (omega arith) c.requires.3 l.invariant.0

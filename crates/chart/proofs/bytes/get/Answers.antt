@@ -26,20 +26,17 @@ overflow_mul-x c = omega (arith, room c.loop-i.i c.args.size c.loop-i.x (search 
 
 pub overflow_add-x : goal.overflow_add-x
 overflow_add-x c =
-    let l = c in
-    omega (arith, room l.loop-i.i l.args.size l.loop-i.x (search rules) (search rules) (search rules))
+    omega (arith, room c.loop-i.i c.args.size c.loop-i.x (search rules) (search rules) (search rules))
 
 pub loop-i-preserved : goal.loop-i-preserved
 loop-i-preserved c =
-    let l = c in
-    let a = l.args in
-    let byte : c.wide.result ≡ get_or (drop a.at a.s.now) l.loop-i.i 0 = c.wide.ensures.0 ∙ sym (get_or-drop a.at a.s.now l.loop-i.i 0) in (
+    let a = c.args in
+    let byte : c.wide.result ≡ get_or (drop a.at a.s.now) c.loop-i.i 0 = c.wide.ensures.0 ∙ sym (get_or-drop a.at a.s.now c.loop-i.i 0) in (
       search rules,
-      (rw (add-one l.loop-i.i, num_suc l.loop-i.i (drop a.at a.s.now)) (cc), rw (add-one l.loop-i.i, pow-suc 256 l.loop-i.i) (omega arith)),
+      (rw (add-one c.loop-i.i, num_suc c.loop-i.i (drop a.at a.s.now)) (cc), rw (add-one c.loop-i.i, pow-suc 256 c.loop-i.i) (omega arith)),
     )
 
 pub returns : goal.returns
 returns c =
-    let l = c in
-    let done : l.loop-i.i ≡ l.args.size = omega arith in
-    rw (← done) l.loop-i.invariant.1
+    let done : c.loop-i.i ≡ c.args.size = omega arith in
+    rw (← done) c.loop-i.invariant.1

@@ -39,17 +39,15 @@ loop-i-init c = let a = c.args in (search rules, (refl, stored-none a.s.now a.at
 
 pub loop-i-preserved : goal.loop-i-preserved
 loop-i-preserved c =
-    let l = c in
-    let a = l.args in (
+    let a = c.args in (
       search rules,
       (
-        simp length-set l.loop-i.invariant.1.0,
-        stored_more a.s.now a.at a.size a.value l.loop-i.s l.loop-i.x l.loop-i.i (search rules) (search rules) (search rules) l.loop-i.invariant.1.1,
+        simp length-set c.loop-i.invariant.1.0,
+        stored_more a.s.now a.at a.size a.value c.loop-i.s c.loop-i.x c.loop-i.i (search rules) (search rules) (search rules) c.loop-i.invariant.1.1,
       ),
     )
 
 pub returns : goal.returns
 returns c =
-    let l = c in
-    let a = l.args in
-    stored-all a.s.now a.at a.size a.value l.loop-i.s l.loop-i.x l.loop-i.i (omega arith) l.loop-i.invariant.1.1
+    let a = c.args in
+    stored-all a.s.now a.at a.size a.value c.loop-i.s c.loop-i.x c.loop-i.i (omega arith) c.loop-i.invariant.1.1

@@ -14,16 +14,14 @@ loop-i-init c = (omega arith, (fill_none _ 0, refl))
 
 pub loop-i-preserved : goal.loop-i-preserved
 loop-i-preserved c =
-    let at-loop = c in
-    let below : at-loop.loop-i.i < length at-loop.args.s.now = omega arith in
-    (omega arith, (rw at-loop.loop-i.invariant.1.0 (fill_more at-loop.loop-i.i 0 at-loop.args.s.now below), simp length-set at-loop.loop-i.invariant.1.1))
+    let below : c.loop-i.i < length c.args.s.now = omega arith in
+    (omega arith, (rw c.loop-i.invariant.1.0 (fill_more c.loop-i.i 0 c.args.s.now below), simp length-set c.loop-i.invariant.1.1))
 
 pub shape_of-s : goal.shape_of-s
 shape_of-s c = c.loop-i.invariant.1.1
 
 pub returns : goal.returns
 returns c =
-    let at-loop = c in
-    let s₀ = at-loop.args.s.now in
-    let done : at-loop.loop-i.i ≡ length s₀ = omega arith in
-    at-loop.loop-i.invariant.1.0 ∙ rw (done, drop-length s₀) (append-nil (replicate (length s₀) 0))
+    let s₀ = c.args.s.now in
+    let done : c.loop-i.i ≡ length s₀ = omega arith in
+    c.loop-i.invariant.1.0 ∙ rw (done, drop-length s₀) (append-nil (replicate (length s₀) 0))

@@ -5,5 +5,4 @@ use Rattle.chart.proofs.rows.note_at.Goals as goal
 
 pub returns : goal.returns
 returns c =
-    let start = c in
-    note_at_law start.args.s.now start.args.at c.get3-head.ensures.0 c.get8.ensures c.get8-2.ensures
+    note_at_law c.args.s.now c.args.at c.get3-head.ensures.0 c.get8.ensures c.get8-2.ensures

@@ -9,13 +9,11 @@ use Rattle.chart.proofs.rows.note_in.Goals as goal
 
 pub old_note_at-requires : goal.old_note_at-requires
 old_note_at-requires c =
-    let start = c in
-    subst (λ (v : Version). start.args.at + note_size_in v ≤ length start.args.s.now) c.in-One.is start.requires
+    subst (λ (v : Version). c.args.at + note_size_in v ≤ length c.args.s.now) c.in-One.is c.requires
 
 pub note_at-requires : goal.note_at-requires
 note_at-requires c =
-    let start = c in
-    subst (λ (v : Version). start.args.at + note_size_in v ≤ length start.args.s.now) c.in-Two.is start.requires
+    subst (λ (v : Version). c.args.at + note_size_in v ≤ length c.args.s.now) c.in-Two.is c.requires
 
 pub returns-in-One : goal.returns-in-One
 returns-in-One c = c.old_note_at.ensures ∙ rw c.in-One.is

@@ -5,5 +5,4 @@ use Rattle.chart.proofs.rows.old_note_at.Goals as goal
 
 pub returns : goal.returns
 returns c =
-    let start = c in
-    note_at_one start.args.s.now start.args.at c.get8.ensures c.get8-2.ensures
+    note_at_one c.args.s.now c.args.at c.get8.ensures c.get8-2.ensures

@@ -7,9 +7,6 @@ use Rattle.chart.proofs.rows.put_note.Goals as goal
 
 pub returns : goal.returns
 returns c =
-    let store = c in
-    let first = store in
-    let start = first in
     c.put8-2.ensures
-    ∙ rw (store.put3.ensures, store.head.ensures, first.put8.ensures)
-    (note_put_mid Two start.args.s.now start.args.at _ _ start.args.n refl refl start.requires.2)
+    ∙ rw (c.put3.ensures, c.head.ensures, c.put8.ensures)
+    (note_put_mid Two c.args.s.now c.args.at _ _ c.args.n refl refl c.requires.2)

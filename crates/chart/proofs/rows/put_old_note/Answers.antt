@@ -10,9 +10,6 @@ use Rattle.chart.proofs.rows.put_old_note.Goals as goal
 pub returns : goal.returns
 unfolding head
 returns c =
-    let store = c in
-    let first = store in
-    let start = first in
-    let is : first.old_head.result ≡ head One start.args.n = first.old_head.ensures ∙ omega (arith, start.requires.0) in
+    let is : c.old_head.result ≡ head One c.args.n = c.old_head.ensures ∙ omega (arith, c.requires.0) in
     c.put8-2.ensures
-    ∙ rw (store.put8.ensures, first.put.ensures, is) (note_put One start.args.s.now start.args.at _ _ start.args.n refl refl start.requires.1)
+    ∙ rw (c.put8.ensures, c.put.ensures, is) (note_put One c.args.s.now c.args.at _ _ c.args.n refl refl c.requires.1)

@@ -7,9 +7,6 @@ use Rattle.chart.proofs.rows.put_row.Goals as goal
 
 pub returns : goal.returns
 returns c =
-    let put = c in
-    let first = put in
-    let start = first in
     c.put8-2.ensures
-    ∙ rw (put.put8.ensures, first.put3.ensures, first.head.ensures)
-    (note_put Two start.args.s.now start.args.at _ _ start.args.row refl refl start.requires.2)
+    ∙ rw (c.put8.ensures, c.put3.ensures, c.head.ensures)
+    (note_put Two c.args.s.now c.args.at _ _ c.args.row refl refl c.requires.2)

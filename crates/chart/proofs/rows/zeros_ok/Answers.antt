@@ -11,16 +11,14 @@ use Rattle.chart.proofs.rows.zeros_ok.Goals as goal
 
 pub get-requires : goal.get-requires
 get-requires c =
-    let start = c in
-    let room : start.args.at + note_size_in One ≤ length start.args.s.now =
-    subst (λ (v : Version). start.args.at + note_size_in v ≤ length start.args.s.now) c.in-One.is start.requires in
+    let room : c.args.at + note_size_in One ≤ length c.args.s.now =
+    subst (λ (v : Version). c.args.at + note_size_in v ≤ length c.args.s.now) c.in-One.is c.requires in
     (omega arith, omega arith)
 
 pub get3-requires : goal.get3-requires
 get3-requires c =
-    let start = c in
-    let room : start.args.at + note_size ≤ length start.args.s.now =
-    subst (λ (v : Version). start.args.at + note_size_in v ≤ length start.args.s.now) c.in-Two.is start.requires in
+    let room : c.args.at + note_size ≤ length c.args.s.now =
+    subst (λ (v : Version). c.args.at + note_size_in v ≤ length c.args.s.now) c.in-Two.is c.requires in
     omega arith
 
 pub returns-in-One : goal.returns-in-One

@@ -19,28 +19,24 @@ pub loop-i-init : goal.loop-i-init
 loop-i-init c = (c.requires.0.order, search rules, zero-add _)
 
 pub is_covering-requires : goal.is_covering-requires
-is_covering-requires c = let s = c in (omega (arith, s.requires.0.within, c.loop-i-test.true), s.requires.1)
+is_covering-requires c = (omega (arith, c.requires.0.within, c.loop-i-test.true), c.requires.1)
 
 pub loop-i-preserved : goal.loop-i-preserved
-loop-i-preserved c = let l = c in
-    let s = l in
-    let ns = notes_in s.args.chart.now in
-    let p = wanted (Covering s.args.at) in
-    let more : l.loop-i.i < length ns = omega (arith, s.requires.0.within, c.loop-i-test.true) in
+loop-i-preserved c = let ns = notes_in c.args.chart.now in
+    let p = wanted (Covering c.args.at) in
+    let more : c.loop-i.i < length ns = omega (arith, c.requires.0.within, c.loop-i-test.true) in
     let size : List ℕ → ℕ = length in
     elim c.if-is_covering.branch [
       then-is_covering w ↦
-        let next = ap size (places_yes p ns l.loop-i.i more (sym c.is_covering.ensures ∙ w.if-is_covering.true)) in
-        (omega arith, omega (arith, l.loop-i.invariant.1), omega (arith, next, l.loop-i.invariant.2))
+        let next = ap size (places_yes p ns c.loop-i.i more (sym c.is_covering.ensures ∙ w.if-is_covering.true)) in
+        (omega arith, omega (arith, c.loop-i.invariant.1), omega (arith, next, c.loop-i.invariant.2))
       | else-is_covering w ↦
-        let next = ap size (places_no p ns l.loop-i.i more (sym c.is_covering.ensures ∙ w.if-is_covering.false)) in
-        (omega arith, omega (arith, l.loop-i.invariant.1), omega (arith, next, l.loop-i.invariant.2))
+        let next = ap size (places_no p ns c.loop-i.i more (sym c.is_covering.ensures ∙ w.if-is_covering.false)) in
+        (omega arith, omega (arith, c.loop-i.invariant.1), omega (arith, next, c.loop-i.invariant.2))
     ]
 
 pub returns : goal.returns
-returns c = let l = c in
-    let s = l in
-    let ns = notes_in s.args.chart.now in
+returns c = let ns = notes_in c.args.chart.now in
     let size : List ℕ → ℕ = length in
-    let at_end : l.loop-i.i ≡ s.args.end = omega (arith, l.loop-i.invariant.0, c.loop-i-test.false) in
-    omega (arith, l.loop-i.invariant.2, ap size (places_none (wanted (Covering s.args.at)) ns l.loop-i.i (omega (arith, s.requires.0.within)) (λ j h k. s.requires.0.none_after j (omega arith) k)))
+    let at_end : c.loop-i.i ≡ c.args.end = omega (arith, c.loop-i.invariant.0, c.loop-i-test.false) in
+    omega (arith, c.loop-i.invariant.2, ap size (places_none (wanted (Covering c.args.at)) ns c.loop-i.i (omega (arith, c.requires.0.within)) (λ j h k. c.requires.0.none_after j (omega arith) k)))

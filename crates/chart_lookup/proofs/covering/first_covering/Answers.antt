@@ -15,17 +15,15 @@ pub loop-i-init : goal.loop-i-init
 loop-i-init c = (search rules, refl)
 
 pub is_covering-requires : goal.is_covering-requires
-is_covering-requires c = let s = c in (omega (arith, s.requires.0, c.loop-i-test.true), s.requires.1)
+is_covering-requires c = (omega (arith, c.requires.0, c.loop-i-test.true), c.requires.1)
 
 pub returns-then-is_covering : goal.returns-then-is_covering
 returns-then-is_covering c = c.loop-i.invariant
 
 pub loop-i-preserved : goal.loop-i-preserved
-loop-i-preserved c = let l = c in
-    let s = l in
-    let ns = notes_in s.args.chart.now in
-    let more : l.loop-i.i < length ns = omega (arith, s.requires.0, c.loop-i-test.true) in
-    (search rules, sym (places_no (wanted (Covering s.args.at)) ns l.loop-i.i more (sym c.is_covering.ensures ∙ c.if-is_covering.false)) ∙ l.loop-i.invariant.1)
+loop-i-preserved c = let ns = notes_in c.args.chart.now in
+    let more : c.loop-i.i < length ns = omega (arith, c.requires.0, c.loop-i-test.true) in
+    (search rules, sym (places_no (wanted (Covering c.args.at)) ns c.loop-i.i more (sym c.is_covering.ensures ∙ c.if-is_covering.false)) ∙ c.loop-i.invariant.1)
 
 pub returns : goal.returns
 returns c = c.loop-i.invariant

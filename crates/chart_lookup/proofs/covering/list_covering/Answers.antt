@@ -14,13 +14,12 @@ use Rattle.chart_lookup.proofs.covering.list_covering.Goals as goal
 use Rattle.chart_lookup.proofs.covering.list_covering.Goals.{After-count_covering-found, After-first_covering-first}
 
 pub first_covering-first-requires : goal.first_covering-first-requires
-first_covering-first-requires c = let s = c in (c.starting_before-end.ensures.within, s.requires.1)
+first_covering-first-requires c = (c.starting_before-end.ensures.within, c.requires.1)
 
 -- from the first one to where starts are past the instant
 stretch : (c : After-first_covering-first)
     → Stretch (wanted (Covering c.args.at)) (notes_in c.args.chart.now) c.first_covering-first.result c.starting_before-end.result
-stretch c = let b = c in
-    record { order = c.first_covering-first.ensures.0; within = b.starting_before-end.ensures.within; none_after = none_covers _ _ _ _ b.first_after.ensures b.starting_before-end.ensures }
+stretch c = record { order = c.first_covering-first.ensures.0; within = c.starting_before-end.ensures.within; none_after = none_covers _ _ _ _ c.first_after.ensures c.starting_before-end.ensures }
 
 pub count_covering-found-requires : goal.count_covering-found-requires
 count_covering-found-requires c = (stretch (goal.at.count_covering-found-requires c).After-first_covering-first, c.requires.1)
@@ -37,12 +36,9 @@ pub returns-then-found-list : goal.returns-then-found-list
 returns-then-found-list c = too_many _ _ (rw (counts (goal.at.returns-then-found-list c).After-count_covering-found) at c.if-found-list.true)
 
 pub write_covering-requires : goal.write_covering-requires
-write_covering-requires c = let n = c in
-    let f = n in
-    (stretch (goal.at.write_covering-requires c).After-first_covering-first, f.requires.1, n.count_covering-found.ensures, c.if-found-list.false)
+write_covering-requires c = (stretch (goal.at.write_covering-requires c).After-first_covering-first, c.requires.1, c.count_covering-found.ensures, c.if-found-list.false)
 
 pub returns : goal.returns
-returns c = let n = c in
-    let fits = rw (counts (goal.at.returns c).After-count_covering-found) at c.if-found-list.false in
-    rw (c.write_covering.ensures, n.first_covering-first.ensures.1, counts (goal.at.returns c).After-count_covering-found)
+returns c = let fits = rw (counts (goal.at.returns c).After-count_covering-found) at c.if-found-list.false in
+    rw (c.write_covering.ensures, c.first_covering-first.ensures.1, counts (goal.at.returns c).After-count_covering-found)
     (some_found _ _ fits (λ e. c.if-found-eq0.false (counts (goal.at.returns c).After-count_covering-found ∙ e)))

@@ -13,12 +13,9 @@ pub returns-then-second-count : goal.returns-then-second-count
 returns-then-second-count c = rw (le-ltb _ _ c.if-second-count.true)
 
 pub nearer-requires : goal.nearer-requires
-nearer-requires c = let e = c in
-    let s = e in
-    let below : s.args.second < length (notes_in s.args.chart.now) = omega (arith, s.requires.0, e.if-second-count.false) in
-    (rw c.note_of.ensures (note_known _ _ s.requires.1).1.0, rw c.note_of-2.ensures (note_known _ _ below).1.0, s.requires.2)
+nearer-requires c = let below : c.args.second < length (notes_in c.args.chart.now) = omega (arith, c.requires.0, c.if-second-count.false) in
+    (rw c.note_of.ensures (note_known _ _ c.requires.1).1.0, rw c.note_of-2.ensures (note_known _ _ below).1.0, c.requires.2)
 
 pub returns : goal.returns
 unfolding away
-returns c = let n = c in
-    rw (lt-ltb _ _ n.if-second-count.false, ← n.note_of-2.ensures, ← n.note_of.ensures) c.nearer.ensures
+returns c = rw (lt-ltb _ _ c.if-second-count.false, ← c.note_of-2.ensures, ← c.note_of.ensures) c.nearer.ensures

@@ -14,25 +14,20 @@ pub loop-i-init : goal.loop-i-init
 loop-i-init c = (search rules, c.requires.1, λ j h k e. absurd (omega arith))
 
 pub note_of-requires : goal.note_of-requires
-note_of-requires c = let s = c in omega (arith, s.requires.0, c.loop-i-test.true)
+note_of-requires c = omega (arith, c.requires.0, c.loop-i-test.true)
 
 pub returns-then-note_of-column : goal.returns-then-note_of-column
-returns-then-note_of-column c = let n = c in
-    let l = n.loop-i.invariant in
-    record { late = l.0; within = l.1; none_before = l.2; there = λ h. sym (ap (λ (m : Note). m.column) n.note_of.ensures) ∙ c.if-note_of-column.true }
+returns-then-note_of-column c = let l = c.loop-i.invariant in
+    record { late = l.0; within = l.1; none_before = l.2; there = λ h. sym (ap (λ (m : Note). m.column) c.note_of.ensures) ∙ c.if-note_of-column.true }
 
 pub loop-i-preserved : goal.loop-i-preserved
-loop-i-preserved c = let n = c in
-    let l = n in
-    let s = l in
-    let ns = notes_in s.args.chart.now in (
+loop-i-preserved c = let ns = notes_in c.args.chart.now in (
       search rules,
-      omega (arith, s.requires.0, n.loop-i-test.true),
-      λ j h k. one_more (λ q. s.args.from ≤ q → (get_or ns q blank).column ≡ s.args.column → ⊥) l.loop-i.i (λ q b a. l.loop-i.invariant.2 q a b)
-          (λ a e. c.if-note_of-column.false (ap (λ (m : Note). m.column) n.note_of.ensures ∙ e)) j k h,
+      omega (arith, c.requires.0, c.loop-i-test.true),
+      λ j h k. one_more (λ q. c.args.from ≤ q → (get_or ns q blank).column ≡ c.args.column → ⊥) c.loop-i.i (λ q b a. c.loop-i.invariant.2 q a b)
+          (λ a e. c.if-note_of-column.false (ap (λ (m : Note). m.column) c.note_of.ensures ∙ e)) j k h,
     )
 
 pub returns : goal.returns
 returns c = let l = c.loop-i.invariant in
-    let s = c in
-    record { late = l.0; within = l.1; none_before = l.2; there = λ h. absurd (omega (arith, s.requires.0, c.loop-i-test.false)) }
+    record { late = l.0; within = l.1; none_before = l.2; there = λ h. absurd (omega (arith, c.requires.0, c.loop-i-test.false)) }

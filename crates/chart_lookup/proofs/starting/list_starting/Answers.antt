@@ -38,9 +38,7 @@ pub returns-then-found-list : goal.returns-then-found-list
 returns-then-found-list c = too_many _ _ (rw (all (goal.at.returns-then-found-list c).Else-end-first, length_run _ _) c.if-found-list.true)
 
 pub returns : goal.returns
-returns c = let e = c in
-    let w = c in
-    let first = e.starting_before-first.result in
-    let found = e.starting_before-end.result - first in
-    rw (all (goal.at.returns c).Else-end-first, w.write_run.ensures)
-    (rw (length_run first found) at (some_found (run first found) e.args.list.now (rw (length_run first found) w.if-found-list.false) (λ z. omega (arith, e.if-end-first.false, length_run first found, z))))
+returns c = let first = c.starting_before-first.result in
+    let found = c.starting_before-end.result - first in
+    rw (all (goal.at.returns c).Else-end-first, c.write_run.ensures)
+    (rw (length_run first found) at (some_found (run first found) c.args.list.now (rw (length_run first found) c.if-found-list.false) (λ z. omega (arith, c.if-end-first.false, length_run first found, z))))

@@ -14,7 +14,7 @@ pub loop-k-init : goal.loop-k-init
 loop-k-init c = let all : c.args.found - 0 ≡ c.args.found = omega arith in (search rules, rw (add-zero c.args.first, all) (wrote_none _ _))
 
 room : (c : In-loop-k) → c.loop-k.k < length c.loop-k.list
-room c = let s = c in omega (arith, c.loop-k.invariant.1.long, s.requires.1, c.loop-k-test.true)
+room c = omega (arith, c.loop-k.invariant.1.long, c.requires.1, c.loop-k-test.true)
 
 pub offset_bounds-list-k : goal.offset_bounds-list-k
 offset_bounds-list-k c = let r = room (goal.at.offset_bounds-list-k c).In-loop-k in search rules
@@ -23,14 +23,13 @@ pub bounds-list-k : goal.bounds-list-k
 bounds-list-k c = room (goal.at.bounds-list-k c).In-loop-k
 
 pub loop-k-preserved : goal.loop-k-preserved
-loop-k-preserved c = let l = c in
-    let s = l in (
+loop-k-preserved c = (
       search rules,
-      wrote_next _ _ _ _ _ _ (rw (length_run s.args.first s.args.found) s.requires.1) (rw (run_next s.args.first s.args.found l.loop-k.k c.loop-k-test.true) at l.loop-k.invariant.1),
+      wrote_next _ _ _ _ _ _ (rw (length_run c.args.first c.args.found) c.requires.1) (rw (run_next c.args.first c.args.found c.loop-k.k c.loop-k-test.true) at c.loop-k.invariant.1),
     )
 
 pub shape_of-list : goal.shape_of-list
 shape_of-list c = c.loop-k.invariant.1.long
 
 pub returns : goal.returns
-returns c = let l = c in wrote_all _ _ _ _ (rw (run_end (l.args.first + l.loop-k.k) l.args.found l.loop-k.k (search rules)) at l.loop-k.invariant.1)
+returns c = wrote_all _ _ _ _ (rw (run_end (c.args.first + c.loop-k.k) c.args.found c.loop-k.k (search rules)) at c.loop-k.invariant.1)

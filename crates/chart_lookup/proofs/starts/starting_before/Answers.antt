@@ -15,18 +15,14 @@ pub note_of-requires : goal.note_of-requires
 note_of-requires c = omega (arith, c.loop-low.invariant.0, c.loop-low.invariant.1, c.loop-low-test.true)
 
 pub loop-low-preserved-then-note_of-pattern : goal.loop-low-preserved-then-note_of-pattern
-loop-low-preserved-then-note_of-pattern c = let l = c in
-    let s = l in
-    let test = c.loop-low-test.true in
+loop-low-preserved-then-note_of-pattern c = let test = c.loop-low-test.true in
     let here = rw c.note_of.ensures at c.if-note_of-pattern.true in
-    (search rules, l.loop-low.invariant.1, λ j h. lt_of_le_of_lt (rise s.args.chart.now j _ (omega arith) (omega (arith, l.loop-low.invariant.1))) here, l.loop-low.invariant.3)
+    (search rules, c.loop-low.invariant.1, λ j h. lt_of_le_of_lt (rise c.args.chart.now j _ (omega arith) (omega (arith, c.loop-low.invariant.1))) here, c.loop-low.invariant.3)
 
 pub loop-low-preserved : goal.loop-low-preserved
-loop-low-preserved c = let l = c in
-    let s = l in
-    let test = c.loop-low-test.true in
+loop-low-preserved c = let test = c.loop-low-test.true in
     let here = rw c.note_of.ensures at c.if-note_of-pattern.false in
-    (search rules, omega (arith, l.loop-low.invariant.1), l.loop-low.invariant.2, λ j h k. le_trans here (rise s.args.chart.now _ j h k))
+    (search rules, omega (arith, c.loop-low.invariant.1), c.loop-low.invariant.2, λ j h k. le_trans here (rise c.args.chart.now _ j h k))
 
 pub returns : goal.returns
 returns c = let l = c.loop-low.invariant in

@@ -8,11 +8,10 @@ use Rattle.exact_times.specs.Laws.Instants.{not_after, before_the_end, ticks_le}
 use Rattle.exact_times.proofs.moments.inside_at.Goals as goal
 
 pub returns-then-t-start : goal.returns-then-t-start
-returns-then-t-start c = let s = c in not_after _ _ _ (ticks_le _ _ c.if-t-start.true s.requires.0)
+returns-then-t-start c = not_after _ _ _ (ticks_le _ _ c.if-t-start.true c.requires.0)
 
 pub returns : goal.returns
-returns c = let s = c in
-    c.is_greater.ensures
+returns c = c.is_greater.ensures
     ∙ ap is_greater c.sum_order.ensures
     ∙ greater_ltb _ _
-    ∙ before_the_end _ _ _ (ticks_mono _ _ c.if-t-start.false s.requires.2)
+    ∙ before_the_end _ _ _ (ticks_mono _ _ c.if-t-start.false c.requires.2)

@@ -21,4 +21,4 @@ returns-in-At c = c.nearer_at.ensures ∙ rw (told (goal.at.returns-in-At c).In-
 
 pub returns-in-Before : goal.returns-in-Before
 unfolding Tells
-returns-in-Before c = let s = c in ticks_ltb _ _ s.requires.1 s.requires.0 ∙ before_distance _ _ _ (rw c.in-Before.is at c.moment_of.ensures)
+returns-in-Before c = ticks_ltb _ _ c.requires.1 c.requires.0 ∙ before_distance _ _ _ (rw c.in-Before.is at c.moment_of.ensures)

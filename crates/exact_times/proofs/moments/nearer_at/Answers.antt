@@ -8,23 +8,19 @@ use Rattle.exact_times.specs.Laws.Instants.{both_after, both_before, second_afte
 use Rattle.exact_times.proofs.moments.nearer_at.Goals as goal
 
 pub returns-then-t-first : goal.returns-then-t-first
-returns-then-t-first c = let s = c in
-    ticks_ltb _ _ s.requires.1 s.requires.0 ∙ both_after _ _ _ (ticks_mono _ _ c.if-t-first.true s.requires.0) (ticks_mono _ _ c.if-t-second.true s.requires.1)
+returns-then-t-first c = ticks_ltb _ _ c.requires.1 c.requires.0 ∙ both_after _ _ _ (ticks_mono _ _ c.if-t-first.true c.requires.0) (ticks_mono _ _ c.if-t-second.true c.requires.1)
 
 pub returns-then-t-second : goal.returns-then-t-second
-returns-then-t-second c = let s = c in
-    c.is_less.ensures
+returns-then-t-second c = c.is_less.ensures
     ∙ ap is_less c.sum_order_twice.ensures
     ∙ less_ltb _ _
-    ∙ second_after _ _ _ (ticks_le _ _ c.if-t-first.false s.requires.2) (ticks_mono _ _ c.if-t-second.true s.requires.1)
+    ∙ second_after _ _ _ (ticks_le _ _ c.if-t-first.false c.requires.2) (ticks_mono _ _ c.if-t-second.true c.requires.1)
 
 pub returns-then-t-first-2 : goal.returns-then-t-first-2
-returns-then-t-first-2 c = let s = c in
-    c.is_greater.ensures
+returns-then-t-first-2 c = c.is_greater.ensures
     ∙ ap is_greater c.sum_order_twice-then-t-first-2.ensures
     ∙ greater_ltb _ _
-    ∙ second_before _ _ _ (ticks_mono _ _ c.if-t-first-2.true s.requires.0) (ticks_le _ _ c.if-t-second.false s.requires.2)
+    ∙ second_before _ _ _ (ticks_mono _ _ c.if-t-first-2.true c.requires.0) (ticks_le _ _ c.if-t-second.false c.requires.2)
 
 pub returns : goal.returns
-returns c = let s = c in
-    ticks_ltb _ _ s.requires.0 s.requires.1 ∙ both_before _ _ _ (ticks_le _ _ c.if-t-first-2.false s.requires.2) (ticks_le _ _ c.if-t-second.false s.requires.2)
+returns c = ticks_ltb _ _ c.requires.0 c.requires.1 ∙ both_before _ _ _ (ticks_le _ _ c.if-t-first-2.false c.requires.2) (ticks_le _ _ c.if-t-second.false c.requires.2)

@@ -16,20 +16,12 @@ milliseconds-requires c = duration_in_law _ _ c.requires
 
 pub returns-then-n : goal.returns-then-n
 returns-then-n c =
-    let size = c in
-    let x = size in
-    let m = x in
-    let s = m in
-    let is = line_hold s.args.columns s.args.n s.requires c.if-n.true x.x_of.ensures m.milliseconds-start.ensures.0 c.milliseconds.ensures.0 in
+    let is = line_hold c.args.columns c.args.n c.requires c.if-n.true c.x_of.ensures c.milliseconds-start.ensures.0 c.milliseconds.ensures.0 in
     let all = ap (λ (l : Line). length (line_text l)) is in
-    (omega (arith, all, length_hold x.x_of.result m.milliseconds-start.result (m.milliseconds-start.result + c.milliseconds.result)), omega arith)
+    (omega (arith, all, length_hold c.x_of.result c.milliseconds-start.result (c.milliseconds-start.result + c.milliseconds.result)), omega arith)
 
 pub returns : goal.returns
 returns c =
-    let size = c in
-    let x = size in
-    let m = x in
-    let s = m in
-    let is = line_circle s.args.columns s.args.n s.requires c.if-n.false x.x_of.ensures m.milliseconds-start.ensures.0 in
+    let is = line_circle c.args.columns c.args.n c.requires c.if-n.false c.x_of.ensures c.milliseconds-start.ensures.0 in
     let all = ap (λ (l : Line). length (line_text l)) is in
-    (omega (arith, all, length_circle x.x_of.result m.milliseconds-start.result), omega arith)
+    (omega (arith, all, length_circle c.x_of.result c.milliseconds-start.result), omega arith)

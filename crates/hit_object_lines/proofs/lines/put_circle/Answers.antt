@@ -15,10 +15,8 @@ put_word-requires c = let a = c.args in omega (arith, length_circle a.x a.start)
 pub returns : goal.returns
 unfolding line_text circle_part ascii
 returns c =
-    let c₁ = c in
-    let c₀ = c₁ in
-    let a = c₀.args in
+    let a = c.args in
     let fits = length_circle a.x a.start in
-    let part₁ = wrote_first (head_text a.x a.start) c₀.put_head-a.ensures.s_after c₀.put_head-a.ensures.value in
-    let all = wrote_next circle_part part₁ c₁.put_word.ensures.s_after c₁.put_word.ensures.value (omega arith) in
+    let part₁ = wrote_first (head_text a.x a.start) c.put_head-a.ensures.s_after c.put_head-a.ensures.value in
+    let all = wrote_next circle_part part₁ c.put_word.ensures.s_after c.put_word.ensures.value (omega arith) in
     record { value = all.next; s_after = all.bytes }

@@ -18,12 +18,9 @@ put_number-requires c = let a = c.args in omega (arith, length_head a.x a.start)
 pub returns : goal.returns
 unfolding head_text y_part ascii
 returns c =
-    let c₂ = c in
-    let c₁ = c₂ in
-    let c₀ = c₁ in
-    let a = c₀.args in
+    let a = c.args in
     let fits = length_head a.x a.start in
-    let part₁ = wrote_first (decimal a.x) c₀.put_number-a.ensures.s_after c₀.put_number-a.ensures.value in
-    let part₂ = wrote_next y_part part₁ c₁.put_word-b.ensures.s_after c₁.put_word-b.ensures.value (omega arith) in
-    let all = wrote_next (decimal a.start) part₂ c₂.put_number.ensures.s_after c₂.put_number.ensures.value (omega arith) in
+    let part₁ = wrote_first (decimal a.x) c.put_number-a.ensures.s_after c.put_number-a.ensures.value in
+    let part₂ = wrote_next y_part part₁ c.put_word-b.ensures.s_after c.put_word-b.ensures.value (omega arith) in
+    let all = wrote_next (decimal a.start) part₂ c.put_number.ensures.s_after c.put_number.ensures.value (omega arith) in
     record { value = all.next; s_after = all.bytes }

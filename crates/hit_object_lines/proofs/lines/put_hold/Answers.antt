@@ -21,14 +21,10 @@ put_word-requires c = let a = c.args in omega (arith, length_hold a.x a.start a.
 pub returns : goal.returns
 unfolding line_text hold_part end_part ascii
 returns c =
-    let c₃ = c in
-    let c₂ = c₃ in
-    let c₁ = c₂ in
-    let c₀ = c₁ in
-    let a = c₀.args in
+    let a = c.args in
     let fits = length_hold a.x a.start a.end in
-    let part₁ = wrote_first (head_text a.x a.start) c₀.put_head-a.ensures.s_after c₀.put_head-a.ensures.value in
-    let part₂ = wrote_next hold_part part₁ c₁.put_word-b.ensures.s_after c₁.put_word-b.ensures.value (omega arith) in
-    let part₃ = wrote_next (decimal a.end) part₂ c₂.put_number-c.ensures.s_after c₂.put_number-c.ensures.value (omega arith) in
-    let all = wrote_next end_part part₃ c₃.put_word.ensures.s_after c₃.put_word.ensures.value (omega arith) in
+    let part₁ = wrote_first (head_text a.x a.start) c.put_head-a.ensures.s_after c.put_head-a.ensures.value in
+    let part₂ = wrote_next hold_part part₁ c.put_word-b.ensures.s_after c.put_word-b.ensures.value (omega arith) in
+    let part₃ = wrote_next (decimal a.end) part₂ c.put_number-c.ensures.s_after c.put_number-c.ensures.value (omega arith) in
+    let all = wrote_next end_part part₃ c.put_word.ensures.s_after c.put_word.ensures.value (omega arith) in
     record { value = all.next; s_after = all.bytes }

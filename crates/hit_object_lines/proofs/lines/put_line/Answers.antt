@@ -10,28 +10,20 @@ milliseconds-requires c = duration_in_law _ _ c.requires.0
 
 pub put_hold-requires : goal.put_hold-requires
 put_hold-requires c =
-    let s = c in
-    let is = line_hold s.args.columns s.args.n s.requires.0 c.if-n.true c.x_of-x.ensures c.milliseconds-start.ensures.0 c.milliseconds.ensures.0 in
-    rw is s.requires.1
+    let is = line_hold c.args.columns c.args.n c.requires.0 c.if-n.true c.x_of-x.ensures c.milliseconds-start.ensures.0 c.milliseconds.ensures.0 in
+    rw is c.requires.1
 
 pub returns-then-n : goal.returns-then-n
 returns-then-n c =
-    let put = c in
-    let d = put in
-    let s = d in
-    let is = line_hold s.args.columns s.args.n s.requires.0 d.if-n.true d.x_of-x.ensures d.milliseconds-start.ensures.0 d.milliseconds.ensures.0 in
-    rw (← is) put.put_hold.ensures
+    let is = line_hold c.args.columns c.args.n c.requires.0 c.if-n.true c.x_of-x.ensures c.milliseconds-start.ensures.0 c.milliseconds.ensures.0 in
+    rw (← is) c.put_hold.ensures
 
 pub put_circle-requires : goal.put_circle-requires
 put_circle-requires c =
-    let s = c in
-    let is = line_circle s.args.columns s.args.n s.requires.0 c.if-n.false c.x_of-x.ensures c.milliseconds-start.ensures.0 in
-    rw is s.requires.1
+    let is = line_circle c.args.columns c.args.n c.requires.0 c.if-n.false c.x_of-x.ensures c.milliseconds-start.ensures.0 in
+    rw is c.requires.1
 
 pub returns : goal.returns
 returns c =
-    let put = c in
-    let d = put in
-    let s = d in
-    let is = line_circle s.args.columns s.args.n s.requires.0 d.if-n.false d.x_of-x.ensures d.milliseconds-start.ensures.0 in
-    rw (← is) put.put_circle.ensures
+    let is = line_circle c.args.columns c.args.n c.requires.0 c.if-n.false c.x_of-x.ensures c.milliseconds-start.ensures.0 in
+    rw (← is) c.put_circle.ensures

@@ -4,5 +4,4 @@ use Rattle.hit_object_lines.proofs.times.has_whole.Goals as goal
 
 pub returns : goal.returns
 returns c =
-    let s = c in
-    rw (c.time_of.ensures, c.milliseconds.ensures.0) (whole_pattern s.args.bits s.requires)
+    rw (c.time_of.ensures, c.milliseconds.ensures.0) (whole_pattern c.args.bits c.requires)

@@ -13,7 +13,7 @@ unfolding is_whole start_of
 returns-then-not-has_whole c = rw (sym c.has_whole.ensures ∙ c.if-not-has_whole.true)
 
 pub has_whole-requires-2 : goal.has_whole-requires-2
-has_whole-requires-2 c = let s = c in in_duration s.args.n.start s.args.n.duration s.requires.duration_time s.requires.ends
+has_whole-requires-2 c = in_duration c.args.n.start c.args.n.duration c.requires.duration_time c.requires.ends
 
 pub returns : goal.returns
 unfolding is_whole start_of end_of

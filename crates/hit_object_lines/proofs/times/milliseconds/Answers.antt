@@ -11,6 +11,5 @@ float_from_bits-bits c = let b = c.args.bits in no_nan binary64 b (omega (arith,
 
 pub returns : goal.returns
 returns c =
-    let s = c in
-    let is = c.to_count.ensures ∙ count_ms s.args.bits s.requires in
-    (is, rw is (few_ms s.args.bits s.requires))
+    let is = c.to_count.ensures ∙ count_ms c.args.bits c.requires in
+    (is, rw is (few_ms c.args.bits c.requires))

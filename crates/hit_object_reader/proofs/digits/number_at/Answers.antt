@@ -37,12 +37,11 @@ returns-then-d-gt-LATEST_END c =
     let a = c.args in
     let s = a.s.now in
     let d = c.digits_at-d in
-    let e = c in
-    record { result_value = number_large s a.at (omega arith) e.if-c-eq48.false d.result.value (drop d.result.next s) (sym e.is_digit.ensures ∙ e.if-not-is_digit.false) d.ensures.s_value c.if-d-gt-LATEST_END.true; number_in = tt }
+    record { result_value = number_large s a.at (omega arith) c.if-c-eq48.false d.result.value (drop d.result.next s) (sym c.is_digit.ensures ∙ c.if-not-is_digit.false) d.ensures.s_value c.if-d-gt-LATEST_END.true; number_in = tt }
 
 pub returns : goal.returns
 returns c =
     let a = c.args in
     let s = a.s.now in
     let d = c.digits_at-d in
-    let e = c in record { result_value = number_is s a.at (omega arith) e.if-c-eq48.false d.result.value (drop d.result.next s) (sym e.is_digit.ensures ∙ e.if-not-is_digit.false) d.ensures.s_value c.if-d-gt-LATEST_END.false; number_in = (c.if-d-gt-LATEST_END.false, record { forward = omega (arith, d.ensures.at_le_next.0); within = d.ensures.at_le_next.1 }) }
+    record { result_value = number_is s a.at (omega arith) c.if-c-eq48.false d.result.value (drop d.result.next s) (sym c.is_digit.ensures ∙ c.if-not-is_digit.false) d.ensures.s_value c.if-d-gt-LATEST_END.false; number_in = (c.if-d-gt-LATEST_END.false, record { forward = omega (arith, d.ensures.at_le_next.0); within = d.ensures.at_le_next.1 }) }

@@ -7,19 +7,13 @@ use Rattle.job_text.proofs.sheets.put_chart_sheet.Goals as goal
 pub returns-in-Length : goal.returns-in-Length
 unfolding Bytes
 returns-in-Length c =
-    let put = c in
-    let bytes = put in
-    let s = bytes in
-    let is = put_length s.args.chart.now s.args.text.now put.put_sheet.new.s (λ k. (bytes.type_inv.chart k).fits) s.requires.0 s.requires.1 c.in-Length.size
-    (rw c.in-Length.is at put.put_sheet.ensures) in
+    let is = put_length c.args.chart.now c.args.text.now c.put_sheet.new.s (λ k. (c.type_inv.chart k).fits) c.requires.0 c.requires.1 c.in-Length.size
+    (rw c.in-Length.is at c.put_sheet.ensures) in
     record { value = (is.0, is.1.0); text_after = is.1.1 }
 
 pub returns-in-Refused : goal.returns-in-Refused
 unfolding Bytes
 returns-in-Refused c =
-    let put = c in
-    let bytes = put in
-    let s = bytes in
-    let is = put_refused s.args.chart.now s.args.text.now put.put_sheet.new.s (λ k. (bytes.type_inv.chart k).fits) s.requires.0 s.requires.1 _
-    (rw c.in-Refused.is at put.put_sheet.ensures) in
+    let is = put_refused c.args.chart.now c.args.text.now c.put_sheet.new.s (λ k. (c.type_inv.chart k).fits) c.requires.0 c.requires.1 _
+    (rw c.in-Refused.is at c.put_sheet.ensures) in
     record { value = (is.0, omega arith); text_after = is.1 }

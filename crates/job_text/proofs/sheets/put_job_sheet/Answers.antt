@@ -16,8 +16,7 @@ use Rattle.job_text.proofs.sheets.put_job_sheet.Goals.{In-Chart}
 fits : (c : In-Chart) → c.in-Chart.size ≤ length c.convert.new.chart
 fits c =
     let convert = c.convert in
-    let start = c in
-    chart_fits start.args.bytes.now start.args.chart.now convert.new.chart allowance c.in-Chart.size c.in-Chart.longest convert.result convert.ensures c.in-Chart.is
+    chart_fits c.args.bytes.now c.args.chart.now convert.new.chart allowance c.in-Chart.size c.in-Chart.longest convert.result convert.ensures c.in-Chart.is
 
 pub slice_bounds-put_chart_sheet-end : goal.slice_bounds-put_chart_sheet-end
 slice_bounds-put_chart_sheet-end c = fits (goal.at.slice_bounds-put_chart_sheet-end c).In-Chart
@@ -27,29 +26,21 @@ slice_bounds-put_chart_sheet-end-in-Chart c = sym (length-take-le _ _ (fits (goa
 
 pub put_chart_sheet-requires : goal.put_chart_sheet-requires
 put_chart_sheet-requires c =
-    let k = c in
-    let made = k.convert.new.chart in
-    let start = k in
-    let kept : length made ≡ length start.args.chart.now = search rules in
-    (omega (arith, length-take-le _ made (fits (goal.at.put_chart_sheet-requires c).In-Chart), kept, fits (goal.at.put_chart_sheet-requires c).In-Chart, start.requires.0), search rules)
+    let made = c.convert.new.chart in
+    let kept : length made ≡ length c.args.chart.now = search rules in
+    (omega (arith, length-take-le _ made (fits (goal.at.put_chart_sheet-requires c).In-Chart), kept, fits (goal.at.put_chart_sheet-requires c).In-Chart, c.requires.0), search rules)
 
 pub returns-in-Chart : goal.returns-in-Chart
 returns-in-Chart c =
-    let put = c in
-    let k = put in
-    let convert = k.convert in
-    let start = k in
-    let shown = ended_text start.args.bytes.now start.args.chart.now convert.new.chart allowance convert.result (J.Chart k.in-Chart.size k.in-Chart.longest) convert.ensures
-    k.in-Chart.is sheet_text put.put_chart_sheet.result start.args.text.now put.put_chart_sheet.new.text (put.put_chart_sheet.ensures.value.0, put.put_chart_sheet.ensures.text_after) in
-    record { value = (shown.0, put.put_chart_sheet.ensures.value.1); text_after = shown.1 }
+    let convert = c.convert in
+    let shown = ended_text c.args.bytes.now c.args.chart.now convert.new.chart allowance convert.result (J.Chart c.in-Chart.size c.in-Chart.longest) convert.ensures
+    c.in-Chart.is sheet_text c.put_chart_sheet.result c.args.text.now c.put_chart_sheet.new.text (c.put_chart_sheet.ensures.value.0, c.put_chart_sheet.ensures.text_after) in
+    record { value = (shown.0, c.put_chart_sheet.ensures.value.1); text_after = shown.1 }
 
 pub returns-in-Refused : goal.returns-in-Refused
 returns-in-Refused c =
-    let put = c in
-    let k = put in
-    let convert = k.convert in
-    let start = k in
-    let v = k.in-Refused in
-    let shown = ended_text start.args.bytes.now start.args.chart.now convert.new.chart allowance convert.result (J.Refused v.number v.object v.draws) convert.ensures
-    v.is sheet_text put.put_refusal_line.result start.args.text.now put.put_refusal_line.new.s (omega (arith, put.put_refusal_line.ensures.value.0), put.put_refusal_line.ensures.s_after) in
-    record { value = (shown.0, omega (arith, put.put_refusal_line.ensures.value.1, start.requires.1)); text_after = shown.1 }
+    let convert = c.convert in
+    let v = c.in-Refused in
+    let shown = ended_text c.args.bytes.now c.args.chart.now convert.new.chart allowance convert.result (J.Refused v.number v.object v.draws) convert.ensures
+    v.is sheet_text c.put_refusal_line.result c.args.text.now c.put_refusal_line.new.s (omega (arith, c.put_refusal_line.ensures.value.0), c.put_refusal_line.ensures.s_after) in
+    record { value = (shown.0, omega (arith, c.put_refusal_line.ensures.value.1, c.requires.1)); text_after = shown.1 }

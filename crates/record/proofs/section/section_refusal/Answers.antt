@@ -16,16 +16,14 @@ loop-left-init c = (omega arith, rw c.width_of-width.ensures (width_le c.args.se
 
 pub returns-then-refusal-ne0 : goal.returns-then-refusal-ne0
 returns-then-refusal-ne0 c =
-    let l = c in
-    let a = l.args in
-    rw l.loop-left.invariant.3 (entries_stop _ (entry_end a.section) (f64_at a.s.now) _ _ _ _ c.loop-left-test.true c.entry_refusal-refusal.ensures c.if-refusal-ne0.true)
+    let a = c.args in
+    rw c.loop-left.invariant.3 (entries_stop _ (entry_end a.section) (f64_at a.s.now) _ _ _ _ c.loop-left-test.true c.entry_refusal-refusal.ensures c.if-refusal-ne0.true)
 
 pub loop-left-preserved : goal.loop-left-preserved
 loop-left-preserved c =
-    let turn = c in
-    let l = turn.loop-left in
-    let a = turn.args in
-    (omega arith, l.invariant.1, l.invariant.2, rw (l.invariant.3, c.f64_at-before.ensures, l.invariant.2) (entries_next (entry_refusal a.section a.s.now) (entry_end a.section) (f64_at a.s.now) _ _ _ turn.loop-left-test.true (sym c.entry_refusal-refusal.ensures ∙ c.if-refusal-ne0.false)))
+    let l = c.loop-left in
+    let a = c.args in
+    (omega arith, l.invariant.1, l.invariant.2, rw (l.invariant.3, c.f64_at-before.ensures, l.invariant.2) (entries_next (entry_refusal a.section a.s.now) (entry_end a.section) (f64_at a.s.now) _ _ _ c.loop-left-test.true (sym c.entry_refusal-refusal.ensures ∙ c.if-refusal-ne0.false)))
 
 pub returns : goal.returns
 unfolding entries_refusal

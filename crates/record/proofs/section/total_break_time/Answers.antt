@@ -23,9 +23,8 @@ break-next s p n sum h = rw (entries_cons (read_break s) (entry_end Breaks) p n 
 
 pub loop-left-preserved : goal.loop-left-preserved
 loop-left-preserved c =
-    let turn = c in
-    let l = turn.loop-left in
-    (omega arith, omega arith, rw (l.invariant.2, c.f64_at-start.ensures, c.f64_at-end.ensures) (break-next _ _ _ _ turn.loop-left-test.true))
+    let l = c.loop-left in
+    (omega arith, omega arith, rw (l.invariant.2, c.f64_at-start.ensures, c.f64_at-end.ensures) (break-next _ _ _ _ c.loop-left-test.true))
 
 pub returns : goal.returns
 unfolding break_time breaks entries

@@ -7,7 +7,7 @@ use native.Mathlib.Omega.{arith}
 use mathlib.Core.List.{List, [], ◌∷◌}
 use Rattle.rules.specs.Rule.{if◌then◌else◌, Rule, give, refuse, draw, draw_until, Outcome, ended, refused, spent, after, drawing_until, run, taken, Done}
 use Rattle.rules.specs.Ledger.{Ledger, after_search, after_value, ledger_until, ledger, sum}
-use Rattle.rules.specs.Laws.Cut.{same_start}
+use Rattle.rules.proofs.Laws.Cut.{same_start}
 
 -- all that a ledger has
 abbrev pub total : Ledger → ℕ

@@ -13,7 +13,7 @@ use Rattle.std.specs.Float.Ieee.Scale.{finite, overflow}
 use Rattle.floats.specs.Root.{square, root}
 use Rattle.floats.specs.Laws.Patterns.{value, size_of, size_lt, small_value, lt_bits, special_bits}
 use Rattle.floats.specs.Laws.Rounding.{lt_or_ge}
-use Rattle.floats.specs.Laws.Roots.{root_under, under_infinity, nearest_root_mono, nearest_root_up_to_infinity}
+use Rattle.floats.proofs.Laws.Roots.{root_under, under_infinity, nearest_root_mono, nearest_root_up_to_infinity}
 use Rattle.floats.specs.Laws.Values.{Sized, rounded_kind, le_not_lt}
 
 -- ---- a clear sign; a NaN has none

@@ -1,0 +1,2 @@
+-- What holds of every rule (`Laws`).
+pub mod Laws
