@@ -24,9 +24,7 @@ use Rattle.announced.specs.declared.SettingRange.{SettingRange}
 use Rattle.announced.specs.declared.DistanceRange.{DistanceRange}
 use Rattle.announced.specs.declared.Slider.{Slider}
 use Rattle.announced.specs.declared.Columns.{Columns}
-use Rattle.announced.specs.declared.Columns.TheVariants as Columns
 use Rattle.announced.specs.declared.Ends.{Ends}
-use Rattle.announced.specs.declared.Ends.TheVariants as Ends
 
 -- ---- the columns
 

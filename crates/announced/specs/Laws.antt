@@ -31,7 +31,6 @@ use Rattle.floats.specs.Laws.Integers.{int_value, count_int}
 use Rattle.floats.specs.Laws.Monotone.{Below, count_mono, under_whole, over_whole}
 use Rattle.model.specs.declared.Distance.TheVariants.{Missing, Given}
 use Rattle.model.specs.declared.Kind.{Kind}
-use Rattle.model.specs.declared.Kind.TheVariants as Kind
 use Rattle.model.specs.declared.Object.{Object}
 use Rattle.model.specs.declared.Settings.{Settings}
 use Rattle.model.specs.Song.{Song}

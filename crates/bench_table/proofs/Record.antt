@@ -3,7 +3,7 @@ use mathlib.Core.Path.{◌≡◌, refl}
 use Prim.Native.Nat.{ℕ}
 use mathlib.Core.List.{List, [], ◌∷◌}
 use lib.ListN.{replicate}
-use Rattle.mania.specs.Job.{Job, accepted}
+use Rattle.mania.specs.Job.{accepted}
 use Rattle.mania.proofs.Computing.{computing}
 use Rattle.job.specs.Job.{job}
 

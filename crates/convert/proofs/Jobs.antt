@@ -6,7 +6,6 @@ use mathlib.Core.List.{List, []}
 use lib.ListN.{length, drop}
 use borrow.Author.Tests.{le-ltb, lt-ltb}
 use Rattle.rules.specs.Rule.{ended}
-use Rattle.rules.specs.Refusal.{number}
 use Rattle.random.specs.Generator.{seeded}
 use Rattle.random.specs.Play.{found, refused, tallied, play}
 use Rattle.random.specs.declared.Draws.{Draws}

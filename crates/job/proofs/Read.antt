@@ -1,5 +1,5 @@
 -- The chart of an accepted job is read: each note is one that the chart reader takes. Assumes nothing.
-use mathlib.Core.Path.{◌≡◌, refl, sym, ap, ap₂, ◌∙◌, subst}
+use mathlib.Core.Path.{◌≡◌, refl, sym, ap, ◌∙◌, subst}
 use Prim.Native.Nat.{ℕ, suc, ◌+◌, ◌-◌, ◌*◌, ◌^◌, ◌≤◌, ◌<◌}
 use native.Mathlib.Nat.{le_trans, le_refl, mul-le-mul_left, lt_of_le_of_lt, lt_of_lt_of_le, zero-add}
 use native.Mathlib.Omega.{arith}
@@ -7,7 +7,7 @@ use mathlib.Core.List.{List, [], ◌∷◌, ◌++◌, map}
 use mathlib.Core.Option.{some}
 use lib.Dec.{lit<, lit≤}
 use borrow.Author.Tests.{ltb-true}
-use lib.ListN.{length, take, drop, length-append, length-drop, length-map}
+use lib.ListN.{length, take, drop, length-append, length-drop}
 use lib.Seq.{take_at}
 use Rattle.model.specs.Limits.{most_repeats, most_spans, most_notes, most_entries, latest_start}
 use Rattle.rules.specs.Rule.{Outcome, ended, run, taken, Done}

@@ -8,7 +8,7 @@ use mathlib.Core.List.{List, [], ◌∷◌, ◌++◌}
 use lib.Dec.{eqb, ltb}
 use lib.Bits.{bit_or}
 use borrow.Author.Tests.{eqb-false, ltb-true}
-use Rattle.rules.specs.Rule.{if◌then◌else◌, ◌>>=◌}
+use Rattle.rules.specs.Rule.{if◌then◌else◌}
 use Rattle.random.specs.Generator.{unit}
 use Rattle.rules.specs.Laws.Each.{each_map}
 use Rattle.chart.specs.Lanes.{extent_of, Apart}

@@ -6,7 +6,7 @@ use mathlib.Core.Bool.{Bool, true, false}
 use lib.Dec.{eqb}
 use lib.Ieee.{Float}
 use borrow.Author.Tests.{eqb-true}
-use Rattle.rules.specs.Rule.{if◌then◌else◌, ◌>>=◌}
+use Rattle.rules.specs.Rule.{if◌then◌else◌}
 use Rattle.random.specs.Generator.{between}
 use Rattle.random.specs.Laws.Range.{between_lt}
 use Rattle.mania.specs.declared.Next.{Next}

@@ -10,7 +10,7 @@ use lib.Ieee.{Float, lt}
 use lib.ListN.{length, take, length-append}
 use borrow.Author.Tests.{leb-false, ltb-false}
 use Rattle.model.specs.Limits.{most_repeats, most_spans, most_rows, most_notes, most_long_spans}
-use Rattle.rules.specs.Rule.{if◌then◌else◌, Rule, give, refuse, draw, draw_until, ◌>>=◌, ended}
+use Rattle.rules.specs.Rule.{if◌then◌else◌, Rule, give, refuse, draw, draw_until, ended}
 use Rattle.random.specs.Generator.{seeded}
 use Rattle.mania.specs.declared.Facts.{Facts}
 use Rattle.mania.specs.declared.PrevValues.{PrevValues}
@@ -35,7 +35,6 @@ use Rattle.mania.specs.Convert.{Walk, SongFacts, song_facts, at, seed, columns_o
 use Rattle.mania.specs.Refusals.{TooLong}
 use Rattle.mania.specs.Job.{under}
 use Rattle.mania.specs.Demand.{Each}
-use Rattle.random.specs.Play.{on}
 use Rattle.random.specs.Laws.Gives.{Gives}
 use Rattle.mania.proofs.Makes.{Makes, giving, refusing, seq, less, by, added, labelled, ran}
 use Rattle.mania.proofs.Bars.{kept, ending_kept}

@@ -9,7 +9,7 @@ use lib.Dec.{eqb, leb, ltb, lit≤}
 use lib.Ieee.{Float, le, lt}
 use lib.ListN.{length}
 use borrow.Author.Tests.{eqb-false}
-use Rattle.rules.specs.Rule.{if◌then◌else◌, ◌>>=◌, ended}
+use Rattle.rules.specs.Rule.{if◌then◌else◌, ended}
 use Rattle.random.specs.Generator.{seeded}
 use Rattle.model.specs.declared.Settings.{Settings}
 use Rattle.mania.specs.declared.Facts.{Facts}

@@ -2,7 +2,7 @@
 -- than the buffer. Assumes nothing.
 use mathlib.Core.Path.{◌≡◌, refl, sym, ap, ◌∙◌, subst}
 use mathlib.Core.Logic.{◌⊎◌, inl, inr}
-use Prim.Native.Nat.{ℕ, suc, ◌+◌, ◌-◌, ◌*◌, ◌^◌, ◌≤◌, ◌<◌, max}
+use Prim.Native.Nat.{ℕ, suc, ◌+◌, ◌-◌, ◌^◌, ◌≤◌, ◌<◌, max}
 use native.Mathlib.Nat.{add-zero, zero-add}
 use native.Mathlib.Omega.{arith}
 use mathlib.Core.Bool.{Bool, true, false}
@@ -14,7 +14,7 @@ use lib.Pow.{pow_pos}
 use borrow.Author.Tests.{ltb-true, ltb-false, le-ltb}
 use Rattle.rules.specs.Rule.{Rule, refuse, Outcome, ended, run, taken, Done, if◌then◌else◌}
 use Rattle.rules.specs.Ledger.{longest}
-use Rattle.rules.specs.Refusal.{too_short, ObjectRule, number}
+use Rattle.rules.specs.Refusal.{too_short, ObjectRule}
 use Rattle.rules.specs.Rule as Rule
 use Rattle.random.specs.Generator.{values, seeded, steps}
 use Rattle.random.specs.Play.{Answer, found, refused, on, play, tallied}

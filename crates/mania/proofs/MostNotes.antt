@@ -26,7 +26,7 @@ use Rattle.mania.specs.Object.{object}
 use Rattle.mania.specs.Range.{FewRepeats}
 use Rattle.mania.specs.Single.{refusal, pattern_fits, settings_fit, points_fit, object_fits, entry_refusal, single_object}
 use Rattle.mania.specs.SingleClaims.{Condition}
-use Rattle.mania.specs.MostNotes.{notes_in, MadeBy, MostNotes}
+use Rattle.mania.specs.MostNotes.{notes_in, MostNotes}
 use Rattle.mania.proofs.Makes.{ran}
 use Rattle.mania.proofs.Counts.{kind_few}
 use Rattle.mania.proofs.Singles.{claims}

@@ -11,7 +11,7 @@ use lib.Bits.{bit_or}
 use lib.Count.{ones}
 use lib.Ieee.{Float, lt}
 use borrow.Author.Tests.{eqb-true, ltb-true, ltb-false, leb-true, leb-false}
-use Rattle.rules.specs.Rule.{if◌then◌else◌, ◌>>=◌}
+use Rattle.rules.specs.Rule.{if◌then◌else◌}
 use Rattle.random.specs.Generator.{between}
 use Rattle.random.specs.Laws.Range.{between_lt}
 use Rattle.rules.specs.Laws.Each.{each_map}

@@ -1,5 +1,5 @@
 -- The conditions of a walk's refusals. Assumes nothing.
-use Rattle.std.specs.Prelude.{◌≡◌, ℕ, zero, suc, ◌+◌, ◌*◌, ◌≤◌, ◌<◌, List, [], ◌∷◌, true, false, length, take}
+use Rattle.std.specs.Prelude.{◌≡◌, ℕ, zero, suc, ◌+◌, ◌≤◌, ◌<◌, List, [], ◌∷◌, true, false, length, take}
 use Rattle.std.specs.Int.Count.{ones}
 use Rattle.rules.specs.Rule.{give, refuse, Outcome, ended, refused, run}
 use Rattle.rules.specs.Refusal.{late_end, no_column, off_deck}

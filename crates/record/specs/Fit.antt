@@ -10,9 +10,7 @@ use Rattle.model.specs.declared.TimingPoint.{TimingPoint}
 use Rattle.model.specs.declared.DifficultyPoint.{DifficultyPoint}
 use Rattle.model.specs.declared.EffectPoint.{EffectPoint}
 use Rattle.model.specs.declared.Distance.{Distance}
-use Rattle.model.specs.declared.Distance.TheVariants as Distance
 use Rattle.model.specs.declared.NodeSound.{NodeSound}
-use Rattle.model.specs.declared.NodeSound.TheVariants as NodeSound
 use Rattle.model.specs.declared.Kind.{Kind}
 use Rattle.model.specs.declared.Kind.TheVariants.{Circle, Slider, Spinner, Hold}
 use Rattle.model.specs.declared.Object.{Object}

@@ -6,9 +6,7 @@ use Rattle.rules.specs.Numbers as Numbers
 use Rattle.model.specs.Limits.{most_repeats, span_range, distance_range, coordinate_range}
 use Rattle.bits.specs.Field.{bits}
 use Rattle.model.specs.declared.Distance.{Distance}
-use Rattle.model.specs.declared.Distance.TheVariants as Distance
 use Rattle.model.specs.declared.NodeSound.{NodeSound}
-use Rattle.model.specs.declared.NodeSound.TheVariants as NodeSound
 use Rattle.model.specs.declared.Kind.{Kind}
 use Rattle.model.specs.declared.Kind.TheVariants.{Circle, Slider, Spinner, Hold}
 use Rattle.model.specs.declared.Object.{Object}

@@ -1,7 +1,7 @@
 -- The reader's tests, one after another, and its answers.
 -- Assumes nothing.
 use Rattle.std.specs.Prelude.{◌≡◌, refl, Bool, true, false, ◌&&◌, List, [], ◌∷◌, leb, ltb, eqb, length, get_or, drop}
-use Rattle.std.proofs.Common.{sym, ap, ◌∙◌, add-zero, get_or-drop, ne_eqb, eq-eqb, le-leb, eqb-true, leb-true, ltb-true}
+use Rattle.std.proofs.Common.{sym, ap, ◌∙◌, ne_eqb, eq-eqb, le-leb, eqb-true, leb-true, ltb-true}
 use Rattle.std.proofs.Math.Bool.{and-false, and-true}
 use Rattle.std.proofs.Math.Option.{Option, none, some, some-injective}
 use Prim.Native.Nat.{ℕ, zero, suc, ◌+◌, ◌-◌, ◌*◌, ◌/◌, ◌%◌, ◌≤◌, ◌<◌, zero-le}

@@ -12,9 +12,8 @@ use Rattle.chart.specs.Order.{rank}
 use Rattle.chart.specs.declared.Version.{Version}
 use Rattle.chart.specs.declared.Note.{Note}
 use Rattle.chart.specs.Tests.{both, passes}
-use Rattle.chart.specs.Chart.{Score, accepted, reading_of, decode, note_in, ok_note, ok_notes, note_tests, notes_read, notes_in, blank}
-use Rattle.floats.specs.Format.{infinity}
-use Rattle.chart.specs.Laws.Reader.{columns_few, notes_ok, note_read, notes_times}
+use Rattle.chart.specs.Chart.{Score, accepted, reading_of, decode, ok_note, ok_notes, note_tests, notes_read, notes_in, blank}
+use Rattle.chart.specs.Laws.Reader.{columns_few, notes_ok}
 use Rattle.chart_lookup.specs.declared.Wanted.{Wanted}
 use Rattle.chart_lookup.specs.Lookup.{listed, looked}
 use Rattle.chart_lookup.specs.Nearest.{seeking, sought_in}

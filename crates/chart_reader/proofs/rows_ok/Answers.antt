@@ -1,7 +1,6 @@
 -- `chart_reader::rows_ok` meets its contract. The invariant: the rows from the i-th on pass exactly where all rows do. The measure is the number of rows left.
 -- Assumes nothing.
 use mathlib.Core.Path.{sym, ◌∙◌}
-use Prim.Native.Nat.{◌-◌}
 use native.Mathlib.Nat.{sub-zero, le_trans, lt_trans}
 use borrow.Author.Rules.{rules}
 use borrow.Author.Tests.{ltb-true, eqb-true, eqb-false}

@@ -1,7 +1,6 @@
 -- `chart_text::put_note_lines` meets its contract. The invariant: the lines of the first i notes are stored. The measure is what is left of the notes.
 -- Assumes nothing.
 use mathlib.Core.Path.{◌≡◌, refl, sym, ◌∙◌}
-use Prim.Native.Nat.{◌-◌}
 use native.Mathlib.Nat.{add-zero}
 use native.Mathlib.Omega.{arith}
 use lib.ListN.{length, get_or, take}

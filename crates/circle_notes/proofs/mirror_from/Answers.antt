@@ -54,24 +54,22 @@ returns-in-Notes-add_centre c =
 
 pub returns-in-Refused-add_centre : goal.returns-in-Refused-add_centre
 unfolding mirror_from
-returns-in-Refused-add_centre c =
-    (
-      sym
-          (rw (← c.random_start-low.ensures)
-          (found_bind _ _ _ _ _ (got (goal.at.returns-in-Refused-add_centre c).In-Given) ∙ found_bind _ _ _ _ _ (sym c.add_mirrored.ensures.0 ∙ ap (placed _ _) c.in-Notes.is)
-          ∙ refused_bind _ _ _ _ _ (sym c.add_centre.ensures.0 ∙ ap (placed _ _) c.in-Refused-add_centre.is))),
-      tt,
-    )
+returns-in-Refused-add_centre c = (
+  sym
+      (rw (← c.random_start-low.ensures)
+      (found_bind _ _ _ _ _ (got (goal.at.returns-in-Refused-add_centre c).In-Given) ∙ found_bind _ _ _ _ _ (sym c.add_mirrored.ensures.0 ∙ ap (placed _ _) c.in-Notes.is)
+      ∙ refused_bind _ _ _ _ _ (sym c.add_centre.ensures.0 ∙ ap (placed _ _) c.in-Refused-add_centre.is))),
+  tt,
+)
 
 pub returns-in-Refused-add_mirrored : goal.returns-in-Refused-add_mirrored
 unfolding mirror_from
-returns-in-Refused-add_mirrored c =
-    (
-      sym
-          (rw (← c.random_start-low.ensures)
-          (found_bind _ _ _ _ _ (got (goal.at.returns-in-Refused-add_mirrored c).In-Given) ∙ refused_bind _ _ _ _ _ (sym c.add_mirrored.ensures.0 ∙ ap (placed _ _) c.in-Refused-add_mirrored.is))),
-      tt,
-    )
+returns-in-Refused-add_mirrored c = (
+  sym
+      (rw (← c.random_start-low.ensures)
+      (found_bind _ _ _ _ _ (got (goal.at.returns-in-Refused-add_mirrored c).In-Given) ∙ refused_bind _ _ _ _ _ (sym c.add_mirrored.ensures.0 ∙ ap (placed _ _) c.in-Refused-add_mirrored.is))),
+  tt,
+)
 
 pub returns-in-Refused : goal.returns-in-Refused
 unfolding mirror_from

@@ -71,11 +71,10 @@ returns-in-Given c =
 
 pub returns-in-Refused : goal.returns-in-Refused
 unfolding rest round of_bits
-returns-in-Refused c =
-    (
-      sym
-          (begun (goal.at.returns-in-Refused c).In-Value
-          ∙ rw (← c.clamp-p2.ensures, ← c.clamp-p3.ensures)
-          (refused_bind _ _ _ _ _ (sym c.get_random_note_count.ensures ∙ ap number c.in-Refused.is))),
-      tt,
-    )
+returns-in-Refused c = (
+  sym
+      (begun (goal.at.returns-in-Refused c).In-Value
+      ∙ rw (← c.clamp-p2.ensures, ← c.clamp-p3.ensures)
+      (refused_bind _ _ _ _ _ (sym c.get_random_note_count.ensures ∙ ap number c.in-Refused.is))),
+  tt,
+)

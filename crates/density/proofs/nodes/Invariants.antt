@@ -1,6 +1,5 @@
 use mathlib.Core.Path.{◌≡◌}
 use Prim.Native.Nat.{◌-◌, ◌≤◌}
-use Rattle.mania.specs.LimitedQueue as Queue
 use Rattle.mania.specs.Convert.{nodes}
 use Rattle.density.specs.Queued.{Held, queued}
 use Rattle.density.proofs.nodes.Given as goal

@@ -22,7 +22,6 @@ module _ (n : ℕ) (h : n ≤ 2 ^ 31) where
   minus-back : to_z w64 (of_z w64 (pos 0 -ℤ to_z w64 n)) ≡ neg_ℤ (pos n)
   minus-back = to_z-of_z minus-fits ∙ minus
 
-
 capped : (n c : ℕ) → n ≤ c → n ≡ min n c
 capped n c h = omega arith
 

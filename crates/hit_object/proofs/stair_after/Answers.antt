@@ -1,6 +1,5 @@
 -- `hit_object::stair_after` meets its contract. The invariant: the notes that are left come to what all come to. Assumes nothing.
 use mathlib.Core.Path.{refl, sym, ◌∙◌}
-use Prim.Native.Nat.{◌-◌}
 use native.Mathlib.Omega.{arith}
 use Rattle.hit_object.proofs.Stairs.{after_more, after_end}
 use Rattle.hit_object.proofs.stair_after.Goals as goal

@@ -1,6 +1,6 @@
 -- `hit_object_lines::text_size` meets its contract. The invariant: the notes before the i-th are whole, and their lines have `size` bytes. The measure is the number of notes left. Assumes nothing.
 use mathlib.Core.Path.{◌≡◌, refl, sym, ◌∙◌}
-use Prim.Native.Nat.{◌-◌, ◌≤◌, ◌<◌}
+use Prim.Native.Nat.{◌≤◌, ◌<◌}
 use native.Mathlib.Omega.{arith}
 use lib.ListN.{length}
 use Rattle.chart.specs.Chart.{notes_in, blank}

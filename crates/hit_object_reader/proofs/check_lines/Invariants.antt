@@ -4,7 +4,6 @@ use lib.ListN.{length, drop}
 use Rattle.chart.specs.Layout.{most_in_chart}
 use Rattle.chart.specs.Order.{rank}
 use Rattle.hit_object_lines.specs.Reading.{notes_on}
-use Rattle.hit_object_reader.specs.declared.rows.Row.TheVariants as R
 use Rattle.hit_object_reader.specs.Laws.Texts.{count_from}
 use Rattle.hit_object_reader.proofs.check_lines.Given as goal
 

@@ -6,7 +6,6 @@ use Rattle.chart.specs.declared.Version.TheVariants.{One}
 use Rattle.chart.specs.Bytes.{splice}
 use Rattle.chart.specs.Chart.{body}
 use Rattle.hit_object_lines.specs.Reading.{notes_on}
-use Rattle.hit_object_reader.specs.declared.rows.Row.TheVariants as R
 use Rattle.hit_object_reader.specs.Told.{lines_notes}
 use Rattle.hit_object_reader.proofs.put_notes.Given as goal
 

@@ -9,7 +9,7 @@ use Rattle.chart.specs.declared.Origin.TheVariants.{Untold}
 use Rattle.hit_object_reader.specs.declared.rows.Line as Code
 use Rattle.hit_object_reader.specs.declared.rows.Line.TheVariants as L
 use Rattle.hit_object_reader.specs.Told.{line_in}
-use Rattle.hit_object_lines.specs.Lines.{Line, circle, hold, y_part, circle_part, hold_part, end_part}
+use Rattle.hit_object_lines.specs.Lines.{circle, hold, y_part, circle_part, hold_part, end_part}
 use Rattle.hit_object_lines.specs.Reading.{number, starts_with, after, head, hold_on, kind_on, line, column_of, time_of, note_of_line, note_on}
 
 -- ---- x and the start

@@ -4,7 +4,7 @@ use Rattle.std.specs.Prelude.{◌≡◌, refl, Bool, true, false, cond, List, []
 use Rattle.std.proofs.Math.Path.{sym, ap}
 use Rattle.std.proofs.Common.{◌∙◌, ⊎_elim, div-add-mod', add-zero, zero-mul, arith, length-append}
 use Rattle.std.proofs.Math.Option
-use Rattle.std.proofs.Math.Option.{none, some, bind}
+use Rattle.std.proofs.Math.Option.{some, bind}
 use Prim.Native.Nat.{ℕ, zero, suc, ◌+◌, ◌-◌, ◌*◌, ◌/◌, ◌%◌, ◌≤◌, ◌<◌}
 use borrow.Author.Tests.{lt-ltb, le-leb, ltb-true, eqb-true}
 use Rattle.rules.specs.Each.{Each}
@@ -21,7 +21,7 @@ use Rattle.chart.specs.Chart.{ok_note, ok_notes, note_tests, lasts, Tells, Well}
 use Rattle.chart.specs.Laws.Times.{le_or_lt}
 use Rattle.chart.specs.Order.{rank}
 use Rattle.hit_object_lines.specs.Lines.{Line, circle, hold, line_text, line_of, millisecond, start_of, end_of, is_whole, all_whole, x_of, chart_lines}
-use Rattle.hit_object_lines.specs.Reading.{note_of_line, untold, note_on, notes_on, line, column_of, time_of, in_order, fitting, notes_for}
+use Rattle.hit_object_lines.specs.Reading.{note_of_line, untold, note_on, notes_on, column_of, time_of, in_order, fitting, notes_for}
 use Rattle.hit_object_lines.specs.Laws.Times.{InTime, time_is, few_ms, sum_whole}
 use Rattle.hit_object_lines.specs.Laws.Notes.{Standing, Writable, standing, start_in_law, duration_in_law, end_ms, end_few}
 use Rattle.hit_object_lines.specs.Laws.Text.{length_circle, length_hold}

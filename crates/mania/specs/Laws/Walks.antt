@@ -1,13 +1,13 @@
 -- The walk, one object at a time: for a loop over the objects that keeps the notes made so far; a job, from how its walk ended; and bytes put at a
 -- buffer's start. Assumes nothing.
-use Rattle.std.specs.Prelude.{◌≡◌, ℕ, suc, ◌+◌, ◌-◌, ◌*◌, Bool, true, false, ltb, length}
+use Rattle.std.specs.Prelude.{◌≡◌, ℕ, suc, ◌+◌, ◌-◌, Bool, true, false, ltb, length}
 use Rattle.std.proofs.Math.Path.{refl, ap, ap₂}
 use Rattle.std.proofs.Common.{sym, ◌∙◌, zero-add, arith, length-append}
 use Rattle.std.proofs.Math.Nat.{zero-max}
 use mathlib.Core.List.{List, [], ◌∷◌, ◌++◌, map, append_assoc, append-nil}
 use Rattle.std.proofs.lemmas.List.{length-map}
 use Rattle.rules.specs.Numbers as Numbers
-use Rattle.rules.specs.Rule.{give, label, ◌>>=◌, ended}
+use Rattle.rules.specs.Rule.{give, label, ended}
 use Rattle.rules.specs.Refusal.{number, spent_number, ObjectRule}
 use Rattle.random.specs.Generator.{seeded}
 use Rattle.random.specs.Play.{Answer, found, refused, tallied, on, play}

@@ -1,6 +1,5 @@
 -- `notes::put_in_columns` meets its contract. The loop's invariant: the first i rows are written. Assumes nothing.
 use mathlib.Core.Path.{ap, ◌∙◌}
-use Prim.Native.Nat.{◌-◌}
 use native.Mathlib.Omega.{arith}
 use Rattle.notes.proofs.Columns.{row_in, row_is}
 use Rattle.notes.proofs.Written.{none_yet, put_next, all_written}

@@ -1,8 +1,6 @@
 -- `notes::put_slider_notes` meets its contract. The loop's invariant: the first i notes are written. Assumes nothing.
 use mathlib.Core.Path.{refl}
-use Prim.Native.Nat.{◌-◌}
 use native.Mathlib.Omega.{arith}
-use Rattle.chart.specs.declared.Note as Patterns
 use Rattle.slider_notes.specs.Words.{note_of_word}
 use Rattle.notes.proofs.Columns.{slider_narrow, told_below}
 use Rattle.notes.proofs.Written.{none_yet, put_next, all_written}

@@ -1,6 +1,5 @@
 -- `pattern::any_free` meets its contract. The invariant: what is asked of the columns from c on is what is asked of all. Assumes nothing.
 use mathlib.Core.Path.{refl, sym, ◌∙◌}
-use Prim.Native.Nat.{◌-◌}
 use native.Mathlib.Omega.{arith}
 use Rattle.pattern.specs.Laws.Searches.{any_hit, any_miss, any_end}
 use Rattle.pattern.proofs.any_free.Goals as goal

@@ -1,7 +1,7 @@
 -- `pattern::draw_to` meets its contract. Invariant: the search ends from here as it ends from its start. Measure: the draws that are left to it.
 -- Assumes nothing.
 use mathlib.Core.Path.{◌≡◌, sym, ap, ◌∙◌}
-use Prim.Native.Nat.{◌+◌, ◌-◌}
+use Prim.Native.Nat.{◌+◌}
 use native.Mathlib.Omega.{arith}
 use Rattle.random.specs.Play.{found, refused, value, on}
 use Rattle.random.specs.declared.Draws.{Draws}

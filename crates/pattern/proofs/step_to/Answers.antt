@@ -20,11 +20,10 @@ returns-then-is_free c =
     sym (step_hit _ _ _ _ _ _ c.loop-left-test.true c.next_column-c.ensures (sym c.is_free.ensures ∙ c.if-is_free.true)) ∙ c.loop-left.invariant.1
 
 pub loop-left-preserved : goal.loop-left-preserved
-loop-left-preserved c =
-    (
-      small (goal.at.loop-left-preserved c).After-next_column-c,
-      sym (step_miss _ _ _ _ _ _ c.loop-left-test.true c.next_column-c.ensures (sym c.is_free.ensures ∙ c.if-is_free.false)) ∙ c.loop-left.invariant.1,
-    )
+loop-left-preserved c = (
+  small (goal.at.loop-left-preserved c).After-next_column-c,
+  sym (step_miss _ _ _ _ _ _ c.loop-left-test.true c.next_column-c.ensures (sym c.is_free.ensures ∙ c.if-is_free.false)) ∙ c.loop-left.invariant.1,
+)
 
 pub returns : goal.returns
 returns c = sym (step_out _ _ _ _ _ c.loop-left-test.false) ∙ c.loop-left.invariant.1

@@ -1,7 +1,6 @@
 -- `points::points_up_to` meets its contract. The loop's invariant: as many points are passed at t, and at any time at which `from` is. Assumes nothing.
-use Prim.Native.Nat.{◌-◌, ◌*◌, ◌≤◌}
+use Prim.Native.Nat.{◌*◌, ◌≤◌}
 use native.Mathlib.Omega.{arith}
-use Rattle.record.specs.Layout as At
 use Rattle.record.specs.Laws.Widths.{width_le}
 use Rattle.points.proofs.Lookups.{near, reached_at, reached_up, found_before, found_after}
 use Rattle.points.proofs.points_up_to.Goals as goal

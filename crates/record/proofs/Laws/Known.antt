@@ -11,7 +11,7 @@ use Rattle.record.specs.declared.Checked.TheVariants.{Accepted}
 use Rattle.record.specs.Layout as At
 use Rattle.record.specs.Refusal.{f64_at, entries_refusal}
 use Rattle.record.specs.Header.{counts_of}
-use Rattle.record.specs.Section.{width_of, entry_refusal, no_time, section_refusal, breaks, timing_points, difficulty_points, effect_points}
+use Rattle.record.specs.Section.{width_of, entry_refusal, no_time, section_refusal, timing_points, difficulty_points, effect_points}
 use Rattle.record.specs.Object.{objects}
 use Rattle.record.specs.Lookup.{Rising}
 use Rattle.record.specs.Record.{places_of, song_of, Parsed, accepted, refused, parse, counts_in, summary_of, checked_of}

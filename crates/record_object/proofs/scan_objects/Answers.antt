@@ -2,7 +2,6 @@
 use mathlib.Core.Path.{sym, ◌∙◌}
 use native.Mathlib.Omega.{arith}
 use lib.Ieee.{round, size, span, climb, units, odd, of_bits, of_fields}
-use Rattle.record.specs.Layout as At
 use Rattle.record.specs.Object.{start_at, zero_start}
 use Rattle.record_object.proofs.Scans.{all_left, left_stop, left_next, left_none}
 use Rattle.record_object.proofs.scan_objects.Goals as goal

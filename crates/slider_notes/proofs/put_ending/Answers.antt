@@ -1,7 +1,6 @@
 -- `slider_notes::put_ending` meets its contract. The invariant: the words to come, added to the pattern so far, give what all give.
 -- Assumes nothing.
 use mathlib.Core.Path.{sym, ◌∙◌}
-use Prim.Native.Nat.{◌-◌}
 use Rattle.slider_notes.proofs.Order.{ending_start, ending_more, ending_less, ending_room, ending_done}
 use Rattle.slider_notes.proofs.put_ending.Goals as goal
 

@@ -1,7 +1,6 @@
 -- `slider_notes::put_others` meets its contract. The invariant: the bars kept so far, and those of the words to come, are those of all.
 -- Assumes nothing.
 use mathlib.Core.Path.{sym, ◌∙◌}
-use Prim.Native.Nat.{◌-◌}
 use Rattle.slider_notes.proofs.Order.{others_start, others_skip, others_keep, others_done}
 use Rattle.slider_notes.proofs.put_others.Goals as goal
 

@@ -1,7 +1,6 @@
 -- `text::put_run` meets its contract. The invariant: the character is stored i times. The measure is what is left of the count.
 -- Assumes nothing.
 use mathlib.Core.Path.{◌≡◌, refl, sym}
-use Prim.Native.Nat.{◌-◌}
 use native.Mathlib.Omega.{arith}
 use lib.ListN.{length-set}
 use Rattle.chart.specs.Laws.Bytes.{splice_none}

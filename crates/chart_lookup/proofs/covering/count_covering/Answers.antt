@@ -1,9 +1,8 @@
 -- `chart_lookup::covering::count_covering` meets its contract. The invariant: those found, and those among the notes from the i-th on, are all. The measure is the number of notes left.
 -- Assumes nothing.
 use mathlib.Core.Path.{◌≡◌, sym, ap, ◌∙◌}
-use mathlib.Core.Logic.{⊎_elim}
 use mathlib.Core.List.{List}
-use Prim.Native.Nat.{ℕ, ◌-◌, ◌<◌}
+use Prim.Native.Nat.{ℕ, ◌<◌}
 use native.Mathlib.Nat.{zero-add}
 use native.Mathlib.Omega.{arith}
 use borrow.Author.Rules.{rules}
@@ -27,12 +26,12 @@ loop-i-preserved c = let ns = notes_in c.args.chart.now in
     let more : c.loop-i.i < length ns = omega (arith, c.requires.0.within, c.loop-i-test.true) in
     let size : List ℕ → ℕ = length in
     elim c.if-is_covering.branch [
-      then-is_covering w ↦
-        let next = ap size (places_yes p ns c.loop-i.i more (sym c.is_covering.ensures ∙ w.if-is_covering.true)) in
-        (omega arith, omega (arith, c.loop-i.invariant.1), omega (arith, next, c.loop-i.invariant.2))
+      | then-is_covering w ↦
+          let next = ap size (places_yes p ns c.loop-i.i more (sym c.is_covering.ensures ∙ w.if-is_covering.true)) in
+          (omega arith, omega (arith, c.loop-i.invariant.1), omega (arith, next, c.loop-i.invariant.2))
       | else-is_covering w ↦
-        let next = ap size (places_no p ns c.loop-i.i more (sym c.is_covering.ensures ∙ w.if-is_covering.false)) in
-        (omega arith, omega (arith, c.loop-i.invariant.1), omega (arith, next, c.loop-i.invariant.2))
+          let next = ap size (places_no p ns c.loop-i.i more (sym c.is_covering.ensures ∙ w.if-is_covering.false)) in
+          (omega arith, omega (arith, c.loop-i.invariant.1), omega (arith, next, c.loop-i.invariant.2))
     ]
 
 pub returns : goal.returns

@@ -1,7 +1,7 @@
 -- `chart_lookup::covering::first_covering` meets its contract. The invariant: the holds from the i-th note on are all. The measure is the number of notes left.
 -- Assumes nothing.
 use mathlib.Core.Path.{refl, sym, ◌∙◌}
-use Prim.Native.Nat.{◌-◌, ◌<◌}
+use Prim.Native.Nat.{◌<◌}
 use native.Mathlib.Omega.{arith}
 use borrow.Author.Rules.{rules}
 use lib.ListN.{length}

@@ -3,7 +3,7 @@
 use mathlib.Core.Path.{sym, ap, ◌∙◌}
 use mathlib.Core.Logic.{⊎_elim}
 use mathlib.Core.List.{List}
-use Prim.Native.Nat.{ℕ, ◌-◌, ◌≤◌, ◌<◌}
+use Prim.Native.Nat.{ℕ, ◌≤◌, ◌<◌}
 use native.Mathlib.Omega.{arith}
 use borrow.Author.Rules.{rules}
 use lib.ListN.{length}
@@ -57,7 +57,7 @@ loop-k-preserved c = let ns = notes_in c.args.chart.now in
     let fits : length (held_from c.args.at c.args.first c.args.chart.now) ≤ length c.args.list.now = omega (arith, c.requires.2, c.requires.3) in (
       omega (arith, more (goal.at.loop-k-preserved c).In-loop-k),
       elim c.if-is_covering.branch [
-        then-is_covering w ↦ rw (w.list-is, w.k-is) (wrote_next _ _ _ _ _ _ fits (rw (places_yes p ns c.loop-k.i below (sym c.is_covering.ensures ∙ w.if-is_covering.true)) at c.loop-k.invariant.1))
+        | then-is_covering w ↦ rw (w.list-is, w.k-is) (wrote_next _ _ _ _ _ _ fits (rw (places_yes p ns c.loop-k.i below (sym c.is_covering.ensures ∙ w.if-is_covering.true)) at c.loop-k.invariant.1))
         | else-is_covering w ↦ rw (w.list-is, w.k-is) (rw (places_no p ns c.loop-k.i below (sym c.is_covering.ensures ∙ w.if-is_covering.false)) at c.loop-k.invariant.1)
       ],
     )

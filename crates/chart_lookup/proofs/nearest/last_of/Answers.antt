@@ -17,20 +17,20 @@ note_of-requires c = omega (arith, c.requires, c.loop-i.invariant.0, c.loop-i-te
 
 pub returns-then-note_of-column : goal.returns-then-note_of-column
 returns-then-note_of-column c = record {
-      within = c.loop-i.invariant.0;
-      none_after = c.loop-i.invariant.1;
-      there = λ j e. let same : c.loop-i.i - 1 ≡ j = omega arith in
-          rw same at (sym (ap (λ (m : Note). m.column) c.note_of.ensures) ∙ c.if-note_of-column.true);
-    }
+  within = c.loop-i.invariant.0;
+  none_after = c.loop-i.invariant.1;
+  there = λ j e. let same : c.loop-i.i - 1 ≡ j = omega arith in
+      rw same at (sym (ap (λ (m : Note). m.column) c.note_of.ensures) ∙ c.if-note_of-column.true);
+}
 
 pub loop-i-preserved : goal.loop-i-preserved
 loop-i-preserved c = (
-      search rules,
-      λ j h k e. ⊎_elim
-          (λ (a : c.loop-i.i ≤ j). c.loop-i.invariant.1 j a k e)
-          (λ (a : j < c.loop-i.i). let same : j ≡ c.loop-i.i - 1 = omega arith in c.if-note_of-column.false (ap (λ (m : Note). m.column) c.note_of.ensures ∙ rw same at e))
-          (le_or_lt c.loop-i.i j),
-    )
+  search rules,
+  λ j h k e. ⊎_elim
+      (λ (a : c.loop-i.i ≤ j). c.loop-i.invariant.1 j a k e)
+      (λ (a : j < c.loop-i.i). let same : j ≡ c.loop-i.i - 1 = omega arith in c.if-note_of-column.false (ap (λ (m : Note). m.column) c.note_of.ensures ∙ rw same at e))
+      (le_or_lt c.loop-i.i j),
+)
 
 pub returns : goal.returns
 returns c = let l = c.loop-i.invariant in

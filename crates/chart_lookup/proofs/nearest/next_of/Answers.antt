@@ -1,7 +1,7 @@
 -- `chart_lookup::nearest::next_of` meets its contract. The invariant: no note before the i-th is of the column. The measure is the number of notes left.
 -- Assumes nothing.
 use mathlib.Core.Path.{◌≡◌, sym, ap, ◌∙◌}
-use Prim.Native.Nat.{◌-◌, ◌≤◌}
+use Prim.Native.Nat.{◌≤◌}
 use native.Mathlib.Omega.{arith}
 use borrow.Author.Rules.{rules}
 use lib.ListN.{get_or}
@@ -22,11 +22,11 @@ returns-then-note_of-column c = let l = c.loop-i.invariant in
 
 pub loop-i-preserved : goal.loop-i-preserved
 loop-i-preserved c = let ns = notes_in c.args.chart.now in (
-      search rules,
-      omega (arith, c.requires.0, c.loop-i-test.true),
-      λ j h k. one_more (λ q. c.args.from ≤ q → (get_or ns q blank).column ≡ c.args.column → ⊥) c.loop-i.i (λ q b a. c.loop-i.invariant.2 q a b)
-          (λ a e. c.if-note_of-column.false (ap (λ (m : Note). m.column) c.note_of.ensures ∙ e)) j k h,
-    )
+  search rules,
+  omega (arith, c.requires.0, c.loop-i-test.true),
+  λ j h k. one_more (λ q. c.args.from ≤ q → (get_or ns q blank).column ≡ c.args.column → ⊥) c.loop-i.i (λ q b a. c.loop-i.invariant.2 q a b)
+      (λ a e. c.if-note_of-column.false (ap (λ (m : Note). m.column) c.note_of.ensures ∙ e)) j k h,
+)
 
 pub returns : goal.returns
 returns c = let l = c.loop-i.invariant in

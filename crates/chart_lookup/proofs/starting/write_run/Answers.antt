@@ -24,9 +24,9 @@ bounds-list-k c = room (goal.at.bounds-list-k c).In-loop-k
 
 pub loop-k-preserved : goal.loop-k-preserved
 loop-k-preserved c = (
-      search rules,
-      wrote_next _ _ _ _ _ _ (rw (length_run c.args.first c.args.found) c.requires.1) (rw (run_next c.args.first c.args.found c.loop-k.k c.loop-k-test.true) at c.loop-k.invariant.1),
-    )
+  search rules,
+  wrote_next _ _ _ _ _ _ (rw (length_run c.args.first c.args.found) c.requires.1) (rw (run_next c.args.first c.args.found c.loop-k.k c.loop-k-test.true) at c.loop-k.invariant.1),
+)
 
 pub shape_of-list : goal.shape_of-list
 shape_of-list c = c.loop-k.invariant.1.long

@@ -1,7 +1,6 @@
 -- `chart_lookup::starts::starting_before` meets its contract. The invariant: the notes before `low` start before the pattern, those from `high` on do not. The measure is their distance.
 -- Assumes nothing.
 use mathlib.Core.Path.{◌≡◌}
-use Prim.Native.Nat.{◌-◌}
 use native.Mathlib.Nat.{le_trans, lt_of_le_of_lt}
 use native.Mathlib.Omega.{arith}
 use borrow.Author.Rules.{rules}

@@ -1,6 +1,6 @@
 -- `hit_object_reader::digits::digits_at` meets its contract. The invariant: the digits from `i` on finish the number. The measure is the number of bytes left. Assumes nothing.
 use mathlib.Core.Path.{refl, sym, ap, ◌∙◌}
-use Prim.Native.Nat.{ℕ, ◌+◌, ◌-◌, ◌<◌}
+use Prim.Native.Nat.{ℕ, ◌+◌, ◌<◌}
 use native.Mathlib.Omega.{arith}
 use lib.ListN.{length, drop}
 use Rattle.hit_object_lines.specs.Reading.{digits_on}

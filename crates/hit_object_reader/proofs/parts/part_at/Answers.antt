@@ -1,6 +1,6 @@
 -- `hit_object_reader::parts::part_at` meets its contract. The invariant: the first i bytes are those of the word. The measure is the number of bytes left of it. Assumes nothing.
 use mathlib.Core.Path.{◌≡◌, sym, ap, ◌∙◌}
-use Prim.Native.Nat.{ℕ, ◌+◌, ◌-◌}
+use Prim.Native.Nat.{ℕ, ◌+◌}
 use native.Mathlib.Nat.{add-zero}
 use native.Mathlib.Omega.{arith}
 use lib.ListN.{drop}

@@ -3,7 +3,6 @@
 use mathlib.Core.Path.{◌≡◌, refl, sym, ◌∙◌}
 use native.Mathlib.Omega.{arith}
 use lib.Ieee.{neg, round, size, span, climb, units, odd, of_bits, of_fields}
-use Rattle.record.specs.Layout as At
 use Rattle.record.specs.Refusal.{f64_at, entries_refusal}
 use Rattle.record.specs.Section.{entry_end, entry_refusal, section_refusal, no_time}
 use Rattle.record.specs.Laws.Widths.{width_le}
