@@ -28,7 +28,7 @@ use Rattle.chart_lookup.specs.Lookup.{Outcome, refused, nothing, found, times_ok
 use Rattle.chart_lookup.specs.Nearest.{away, nearest, placed, seeking, sought_in, sought}
 use Rattle.chart_lookup.specs.Laws.Notes.{starts_rise}
 use Rattle.chart_lookup.specs.Laws.Places.{none_found}
-use Rattle.chart_lookup.specs.Laws.Nearest.{Least, UpTo, all_notes, is_nothing}
+use Rattle.chart_lookup.proofs.Laws.Nearest.{Least, UpTo, all_notes, is_nothing}
 use Rattle.chart_lookup.specs.Claims.{Rising, In, Lists, NearestIn, Claims}
 
 -- ---- lists of places

@@ -1,2 +1,3 @@
 -- The claims on the lookups, proved.
 pub mod Claims
+pub mod Laws

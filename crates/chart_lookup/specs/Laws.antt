@@ -2,4 +2,3 @@
 pub mod Notes
 pub mod Places
 pub mod Wanted
-pub mod Nearest

@@ -136,8 +136,8 @@ module _ (g : PathObjectPatternGenerator) where
     tiled_few : g.start + g.length * g.spans ≤ g.end → Makes (Few N) (PathObject.generate_tiled_hold_notes g)
     tiled_few h = less (Lanes.tiled_good B g (λ c t e l i j. l) (λ c l. l) (λ c l. l) late h) good_few
 
-    chance_few : (c : PathObject.Chances) → Makes (Few N) (PathObject.generate_nrandom_notes g c)
-    unfolding PathObject.generate_nrandom_notes
+    chance_few : (c : PathObject.Chances) → Makes (Few N) (PathObject.generate_n_random_notes g c)
+    unfolding PathObject.generate_n_random_notes
     chance_few c = seq any (λ n u. hold_few n)
 
     row_notes_few : (kind n : ℕ) → n ≤ most_rows → Makes (Few N) (PathObject.generate_random_notes g kind n)

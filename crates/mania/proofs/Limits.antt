@@ -218,8 +218,8 @@ module _ (g : PathObjectPatternGenerator) where
   unfolding PathObject.generate_random_multiple_notes
   multiple = seq valued (λ v. rows _ _ _ _ empty)
 
-  n_notes : (c : PathObject.Chances) → Bound (PathObject.generate_nrandom_notes g c)
-  unfolding PathObject.generate_nrandom_notes
+  n_notes : (c : PathObject.Chances) → Bound (PathObject.generate_n_random_notes g c)
+  unfolding PathObject.generate_n_random_notes
   n_notes c = seq (count _ _ _ _ _) hold_notes
 
   tiles : (end n time c : ℕ) (p : Pattern SliderNote) → Bound (PathObject.add_tiles g end n time c p)

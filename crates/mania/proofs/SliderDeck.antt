@@ -94,8 +94,8 @@ module _ (g : PathObjectPatternGenerator) (some : 0 < g.columns) where
   unfolding PathObject.generate_random_multiple_notes
   multiple = seq any (λ v u. rows _ _ _ _ empty first)
 
-  n_notes : (c : PathObject.Chances) → Makes (Deck T) (PathObject.generate_nrandom_notes g c)
-  unfolding PathObject.generate_nrandom_notes
+  n_notes : (c : PathObject.Chances) → Makes (Deck T) (PathObject.generate_n_random_notes g c)
+  unfolding PathObject.generate_n_random_notes
   n_notes c = seq any (λ n u. hold_notes n)
 
   tiles : (end n time c : ℕ) (p : Pattern SliderNote) → Deck T p → Makes (Deck T) (PathObject.add_tiles g end n time c p)

@@ -147,8 +147,8 @@ module _ (Q : Refusal → Type 0) (long : Q long_search) (g : PathObjectPatternG
   abbrev counted : PathObject.Chances → ObjectRule ℕ
   counted c = get_random_note_count (if PathObject.two_notes g then double 1 1 else c.p2) c.p3 c.p4 (double 0 1) (double 0 1)
 
-  n_notes : (c : PathObject.Chances) → Rare c → Meets Q Any (PathObject.generate_nrandom_notes g c)
-  unfolding PathObject.generate_nrandom_notes
+  n_notes : (c : PathObject.Chances) → Rare c → Meets Q Any (PathObject.generate_n_random_notes g c)
+  unfolding PathObject.generate_n_random_notes
   n_notes c h = seq (go (eqb T 2) refl (eqb T 3) refl (eqb T 8) refl) (λ n l. hold_notes n l)
     where
       go : (a : Bool) → eqb T 2 ≡ a → (b : Bool) → eqb T 3 ≡ b → (d : Bool) → eqb T 8 ≡ d → Meets Q (λ n. n + low ≤ T - low) (counted (PathObject.capped T c))

@@ -157,8 +157,8 @@ module _ (B : SliderNote → Type 0) where
     hold_notes_two : (n : ℕ) → Makes Two (PathObject.generate_random_hold_notes g n)
     hold_notes_two n = less (hold_notes_good n) (λ p h. h.two)
 
-    n_notes_two : (c : PathObject.Chances) → Makes Two (PathObject.generate_nrandom_notes g c)
-    unfolding PathObject.generate_nrandom_notes
+    n_notes_two : (c : PathObject.Chances) → Makes Two (PathObject.generate_n_random_notes g c)
+    unfolding PathObject.generate_n_random_notes
     n_notes_two c = seq (counted _ _ _ _ _) (λ n u. hold_notes_two n)
 
     tiles_good : (end n time c : ℕ) (p : Pattern SliderNote) → end ≤ g.end → ((k : ℕ) → k < n → time + k * L ≤ end) → Good p → Makes Good (PathObject.add_tiles g end n time c p)

@@ -205,8 +205,8 @@ module _ (g : PathObjectPatternGenerator) (eight : g.columns ≡ 8) (mask : g.ma
       (λ r i. seq (holds 0 (n + ones g.mask - (T - random_start T)) r.0 _ r.1 i.0 i.1)
       (λ s j. giving (held_more E _ most s.1 (omega (arith, low)) j.1))))
 
-  n_notes : (c : PathObject.Chances) → Makes (Held E most) (PathObject.generate_nrandom_notes g c)
-  unfolding PathObject.generate_nrandom_notes
+  n_notes : (c : PathObject.Chances) → Makes (Held E most) (PathObject.generate_n_random_notes g c)
+  unfolding PathObject.generate_n_random_notes
   n_notes c = seq (makes {Q = λ r. Unit {0}} (at_most_4 _ _ _ _ _ none_zero none_zero)) (λ n l. hold_notes n l)
 
   -- ---- rows

@@ -219,8 +219,8 @@ unfoldable pub two_notes : PathObjectPatternGenerator → Bool
 two_notes g = not (contains g.flags low_probability) && (has_flag g.sound (clap + finish) || has_flag g.head (clap + finish))
 
 -- `generate_n_random_notes`: the caps first, and then a double sound makes two notes certain
-unfoldable pub generate_nrandom_notes : PathObjectPatternGenerator → Chances → ObjectRule (Pattern SliderNote)
-generate_nrandom_notes g chances = do
+unfoldable pub generate_n_random_notes : PathObjectPatternGenerator → Chances → ObjectRule (Pattern SliderNote)
+generate_n_random_notes g chances = do
   let c = capped g.columns chances
   n ← get_random_note_count (if two_notes g then double 1 1 else c.p2) c.p3 c.p4 (double 0 1) (double 0 1)
   generate_random_hold_notes g n
@@ -291,7 +291,7 @@ generate_spans g =
     else if leb g.length 120 then generate_random_notes g (g.flags ⊔ₜ force_not_stack) (g.spans + 1)
     else if leb g.length 160 then generate_stair g
     else if leb g.length 200 && lt (double 3 1) g.difficulty then generate_random_multiple_notes g
-    else if leb 4000 (g.end - g.start) then generate_nrandom_notes g (percent 23 0 0)
+    else if leb 4000 (g.end - g.start) then generate_n_random_notes g (percent 23 0 0)
     else if ltb 400 g.length && ltb g.spans (tile_limit g.columns) then generate_tiled_hold_notes g
     else generate_hold_and_normal_notes g
 
@@ -309,7 +309,7 @@ unfoldable pub generate_span : PathObjectPatternGenerator → ObjectRule (Patter
 generate_span g =
     if leb g.length 110 then
     generate_random_notes g (if ltb (ones g.mask) g.columns then g.flags ⊔ₜ force_not_stack else g.flags) (if leb 80 g.length then 2 else 1)
-    else generate_nrandom_notes g (chances_by g.difficulty (contains g.flags low_probability))
+    else generate_n_random_notes g (chances_by g.difficulty (contains g.flags low_probability))
 
 -- `generate_`
 unfoldable pub generate_core : PathObjectPatternGenerator → ObjectRule (Pattern SliderNote)

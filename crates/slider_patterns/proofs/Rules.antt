@@ -20,7 +20,7 @@ use Rattle.mania.specs.Pattern.{Pattern, empty, put}
 use Rattle.mania.specs.PatternType.{contains}
 use Rattle.mania.specs.PatternGenerator.{random_start, get_column, get_random_column, get_random_note_count, note_count, find_available_column}
 use Rattle.mania.specs.PathObject.{Chances, any_column, find_column, head_column, add_holds, generate_random_hold_notes, add_row, generate_random_notes, add_stair, generate_stair, legacy, add_rows}
-use Rattle.mania.specs.PathObject.{generate_random_multiple_notes, capped, two_notes, generate_nrandom_notes, add_tiles, generate_tiled_hold_notes, add_besides, beside_count, generate_hold_and_normal_notes}
+use Rattle.mania.specs.PathObject.{generate_random_multiple_notes, capped, two_notes, generate_n_random_notes, add_tiles, generate_tiled_hold_notes, add_besides, beside_count, generate_hold_and_normal_notes}
 use Rattle.slider_notes.specs.Words.{slider_note}
 use Rattle.slider_notes.proofs.Words.{add_on}
 
@@ -108,12 +108,12 @@ module _ (g : PathObjectPatternGenerator) (d : Draws) where
     abbrev counting : ObjectRule ℕ
     counting = get_random_note_count p k.p3 k.p4 (double 0 1) (double 0 1)
 
-    pub n_found : (n : ℕ) (e : Draws) → on counting d ≡ found n e → on (generate_nrandom_notes g chance) d ≡ on (generate_random_hold_notes g n) e
-    unfolding generate_nrandom_notes
+    pub n_found : (n : ℕ) (e : Draws) → on counting d ≡ found n e → on (generate_n_random_notes g chance) d ≡ on (generate_random_hold_notes g n) e
+    unfolding generate_n_random_notes
     n_found n e h = found_bind _ _ _ _ _ (rw (j, t, i) at h)
 
-    pub n_stop : (x : ℕ) (e : Draws) → on counting d ≡ refused x e → on (generate_nrandom_notes g chance) d ≡ refused x e
-    unfolding generate_nrandom_notes
+    pub n_stop : (x : ℕ) (e : Draws) → on counting d ≡ refused x e → on (generate_n_random_notes g chance) d ≡ refused x e
+    unfolding generate_n_random_notes
     n_stop x e h = refused_bind _ _ _ _ _ (rw (j, t, i) at h)
 
   -- ---- tiled holds

@@ -184,7 +184,7 @@ pub fn generate_n_random_notes(
     chance: Chance,
 ) -> Placed
     requires { Fits g (length words.old) }
-    ensures { Places words.new (on (Path.generate_nrandom_notes g (chances chance)) d) most_notes result }
+    ensures { Places words.new (on (Path.generate_n_random_notes g (chances chance)) d) most_notes result }
 {
     let k = slider_times::capped(g.columns, chance);
     let two = slider_times::can_generate_two_notes(g);

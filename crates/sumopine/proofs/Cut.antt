@@ -14,7 +14,7 @@ use Rattle.announced.specs.declared.Slider.{Slider}
 use Rattle.announced.specs.Announced.{facts_of, rest_refusal, ends_refusal}
 use Rattle.announced.specs.Laws.{rest_is, small_fields}
 use Rattle.object_numbers.specs.Single.{largest8, largest16, saturate8, saturate16}
-use Rattle.object_numbers.specs.Laws.{same_test, same_most, itself, node_test, node_itself}
+use Rattle.object_numbers.proofs.Laws.{same_test, same_most, itself, node_test, node_itself}
 use Rattle.sumopine.specs.Announced.{slider_of, EndsTold}
 
 module _ (multiplier beat velocity x y start : Float) (sound repeats given node : ℕ) where

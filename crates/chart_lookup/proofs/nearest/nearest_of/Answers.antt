@@ -10,7 +10,7 @@ use Rattle.chart.specs.Tests.{both}
 use Rattle.exact_times.specs.Instants.{instant, FirstAt}
 use Rattle.chart.specs.Chart.{notes_in, blank}
 use Rattle.chart_lookup.specs.Nearest.{away}
-use Rattle.chart_lookup.specs.Laws.Nearest.{is_nearest, is_nothing, no_note, only_next, next_nearer, last_nearer}
+use Rattle.chart_lookup.proofs.Laws.Nearest.{is_nearest, is_nothing, no_note, only_next, next_nearer, last_nearer}
 use Rattle.chart_lookup.proofs.nearest.nearest_of.Goals as goal
 use Rattle.chart_lookup.proofs.nearest.nearest_of.Goals.{Else-last-eq0}
 

@@ -7,7 +7,7 @@ use borrow.Author.Rules.{rules}
 use lib.ListN.{get_or}
 use Rattle.chart.specs.declared.Note.{Note}
 use Rattle.chart.specs.Chart.{notes_in, blank}
-use Rattle.chart_lookup.specs.Laws.Nearest.{one_more}
+use Rattle.chart_lookup.proofs.Laws.Nearest.{one_more}
 use Rattle.chart_lookup.proofs.nearest.next_of.Goals as goal
 
 pub loop-i-init : goal.loop-i-init

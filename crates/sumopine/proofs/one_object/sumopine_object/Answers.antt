@@ -1,5 +1,5 @@
 -- `sumopine::one_object::sumopine_object` meets its contract. Assumes nothing.
-use Rattle.object_numbers.specs.Laws.{single_whole}
+use Rattle.object_numbers.proofs.Laws.{single_whole}
 use Rattle.object_numbers.proofs.Given.{object_from, gives}
 use Rattle.sumopine.proofs.one_object.sumopine_object.Goals as goal
 

@@ -1,0 +1,2 @@
+-- What the proofs cite of the nearest note.
+pub mod Nearest
