@@ -1,10 +1,9 @@
 -- Songs announced with rounded figures: which column counts are possible, and when a slider ends at the earliest and at the latest. Assumes nothing.
-use Rattle.std.specs.Prelude.{◌≡◌, ℕ, ◌+◌, ◌/◌, ◌%◌, ◌^◌, ◌≤◌, ◌<◌, Bool, false, not, ◌&&◌, ◌||◌, T, eqb, ltb, Float, length}
+use Rattle.std.specs.Prelude.{◌≡◌, ℕ, ◌+◌, ◌/◌, ◌%◌, ◌^◌, ◌≤◌, ◌<◌, Bool, false, not, ◌&&◌, ◌||◌, T, eqb, ltb, Float, length, if◌then◌else◌}
 use Rattle.std.specs.Float.{binary32, binary64}
 use Rattle.std.specs.Float.Ieee.{fits, le}
 use Rattle.model.specs.Limits.{most_entries, setting_range}
 use Rattle.rules.specs.Numbers as Numbers
-use Rattle.rules.specs.Rule.{if◌then◌else◌}
 use Rattle.floats.specs.Range.{in_range}
 use Rattle.model.specs.Song.{Song}
 use Rattle.model.specs.Totals.{sliders_and_spinners}

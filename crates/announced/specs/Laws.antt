@@ -1,6 +1,6 @@
 -- Why the answers are exact. A rounded setting rises with it, and each whole number between the rounded ends of a range is a value of the range, or has the
 -- same columns as an end; a slider's end rises with its distance. Assumes nothing.
-use Rattle.std.specs.Prelude.{◌≡◌, true, false, not, ◌&&◌, ◌||◌, List, [], ◌∷◌, ◌⊎◌, T, eqb, leb, ltb, pos, Float, length}
+use Rattle.std.specs.Prelude.{◌≡◌, true, false, not, ◌&&◌, ◌||◌, List, [], ◌∷◌, ◌⊎◌, T, eqb, leb, ltb, pos, Float, length, if◌then◌else◌}
 use Rattle.std.proofs.Math.Path.{refl, sym, ap}
 use Rattle.std.proofs.Common.{◌∙◌, subst, lt_of_lt_of_le, le_of_mul-le-mul_right, mul-le-mul_right, eq-or-lt_of_le, le_of_suc-le-suc, le_refl, mod-lt, leb-true, ltb-true, ltb-false, eqb-true, lit<, lit≤}
 use Prim.Native.Nat.{ℕ, zero, suc, ◌+◌, ◌-◌, ◌*◌, ◌/◌, ◌%◌, ◌^◌, ◌≤◌, ◌<◌, max}
@@ -19,7 +19,6 @@ use Rattle.std.specs.Float.Ieee.Order.{le_of_values}
 use Rattle.std.specs.Float.Ieee.Positive.{num, den, den_pos}
 use Rattle.model.specs.Limits.{most_repeats, most_spans, most_entries, longest_beat, longest_distance, setting_range, multiplier_range, beat_range, velocity_range, span_range, distance_range}
 use Rattle.rules.specs.Numbers as Numbers
-use Rattle.rules.specs.Rule.{if◌then◌else◌}
 use Rattle.floats.specs.Range.{in_range}
 use Rattle.floats.specs.Whole.{count}
 use Rattle.floats.specs.declared.Way.TheVariants.{Even}

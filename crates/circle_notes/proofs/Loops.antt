@@ -1,4 +1,5 @@
 -- The steps of the loops over notes, as the code takes them, and what holds at each loop's head. Assumes nothing.
+use Rattle.std.specs.Prelude.{if◌then◌else◌}
 use mathlib.Core.Path.{◌≡◌, refl, sym, ap, ◌∙◌}
 use Prim.Native.Nat.{ℕ, suc, ◌+◌, ◌-◌, ◌*◌, ◌/◌, ◌≤◌, ◌<◌}
 use native.Mathlib.Numerals.{add-one}
@@ -7,7 +8,7 @@ use mathlib.Core.Bool.{Bool, true, false}
 use mathlib.Core.List.{List}
 use lib.Bits.{bit_or}
 use lib.ListN.{length}
-use Rattle.rules.specs.Rule.{◌>>=◌, if◌then◌else◌}
+use Rattle.rules.specs.Rule.{◌>>=◌}
 use Rattle.rules.specs.Refusal.{ObjectRule}
 use Rattle.random.specs.Play.{Answer, found, refused, play, on}
 use Rattle.random.specs.declared.Draws.{Draws}

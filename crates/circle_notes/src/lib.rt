@@ -1,9 +1,8 @@
 // pattern_generator/hit_object.rs: the notes of each of a circle's patterns. Their columns are written into a lent buffer, one word a note, in walk order.
 #![tactic(auto)]
 
-ghost use Rattle.std.specs.Prelude.{◌≡◌, ◌+◌, ◌-◌, ◌≤◌, ◌<◌, min, length};
+ghost use Rattle.std.specs.Prelude.{◌≡◌, ◌+◌, ◌-◌, ◌≤◌, ◌<◌, min, length, if◌then◌else◌};
 ghost use Rattle.std.specs.Int.Count.{ones};
-ghost use Rattle.rules.specs.Rule.{if◌then◌else◌};
 ghost use Rattle.random.specs.Play.{on};
 ghost use Rattle.mania.specs.Pattern.{empty};
 ghost use Rattle.mania.specs.PatternGenerator.{random_start};

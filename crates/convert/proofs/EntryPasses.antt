@@ -1,5 +1,6 @@
 -- The values of an accepted song's walk pass the single-object entry's checks: previous time and density are finite, since no time is far, and the
 -- previous position is one of an object or the middle. Assumes nothing.
+use Rattle.std.specs.Prelude.{if◌then◌else◌}
 use mathlib.Core.Path.{◌≡◌, refl, subst}
 use Prim.Native.Nat.{ℕ, zero, suc, ◌+◌, ◌-◌, ◌*◌, ◌^◌, ◌≤◌, ◌<◌}
 use native.Mathlib.Nat.{le_trans, mul-le-mul_right, div-le_self}
@@ -14,7 +15,7 @@ use lib.Ieee.Positive.{den}
 use lib.Ieee.Scale.{finite}
 use lib.ListN.{length, drop, get_or, length-drop}
 use borrow.Author.Tests.{ltb-true, ltb-false, lt-ltb, le-leb}
-use Rattle.rules.specs.Rule.{if◌then◌else◌, ended, run}
+use Rattle.rules.specs.Rule.{ended, run}
 use Rattle.rules.specs.Laws.Each.{each_at}
 use Rattle.random.specs.Generator.{values}
 use Rattle.random.specs.declared.Random.{Random}

@@ -1,9 +1,8 @@
 // The generator of a spinner or a hold: one note.
 #![tactic(auto)]
 
-ghost use Rattle.std.specs.Prelude.{◌≡◌, ◌≤◌, ◌<◌, length, eqb};
+ghost use Rattle.std.specs.Prelude.{◌≡◌, ◌≤◌, ◌<◌, length, eqb, if◌then◌else◌};
 ghost use Rattle.std.specs.Int.Count.{ones};
-ghost use Rattle.rules.specs.Rule.{if◌then◌else◌};
 ghost use Rattle.random.specs.Play.{on};
 ghost use Rattle.mania.specs.EndTimeObject as Rule;
 ghost use Rattle.pattern.specs.Answers.{number, Generates};

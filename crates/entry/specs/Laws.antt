@@ -1,11 +1,10 @@
 -- Values that no check refuses are those that the generators take. Assumes nothing.
-use Rattle.std.specs.Prelude.{◌≡◌, refl, ℕ, ◌^◌, ◌≤◌, ◌<◌, Bool, true, false, not, ◌&&◌, T, leb, ltb}
+use Rattle.std.specs.Prelude.{◌≡◌, refl, ℕ, ◌^◌, ◌≤◌, ◌<◌, Bool, true, false, not, ◌&&◌, T, leb, ltb, if◌then◌else◌}
 use Rattle.std.proofs.Common.{sym, subst, arith, leb-true, lit<, lit≤}
 use Rattle.std.specs.Float.{binary64}
 use Rattle.std.specs.Float.Ieee.Back.{round_whole}
 use Rattle.std.specs.Float.Ieee.Scale.{finite}
 use Rattle.model.specs.Limits.{most_repeats, latest_start, span_range}
-use Rattle.rules.specs.Rule.{if◌then◌else◌}
 use Rattle.floats.specs.Laws.Values.{sized}
 use Rattle.floats.specs.Laws.Spans.{up_to}
 use Rattle.model.specs.declared.Kind.{Kind}

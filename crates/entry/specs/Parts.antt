@@ -1,6 +1,5 @@
 -- The part of check 13 that is a function of its own. Assumes nothing.
-use Rattle.std.specs.Prelude.{ℕ, Bool, not, ◌&&◌, eqb, ltb}
-use Rattle.rules.specs.Rule.{if◌then◌else◌}
+use Rattle.std.specs.Prelude.{ℕ, Bool, not, ◌&&◌, eqb, ltb, if◌then◌else◌}
 use Rattle.mania.specs.Pattern.{free}
 
 -- a last column of the mask, or 0 with an empty one

@@ -1,8 +1,7 @@
 // The convert type of a circle, and the chances of its notes.
 #![tactic(auto)]
 
-ghost use Rattle.std.specs.Prelude.{◌≡◌, ◌<◌};
-ghost use Rattle.rules.specs.Rule.{if◌then◌else◌};
+ghost use Rattle.std.specs.Prelude.{◌≡◌, ◌<◌, if◌then◌else◌};
 ghost use Rattle.random.specs.Play.{on};
 ghost use Rattle.mania.specs.Steps.{double};
 ghost use Rattle.mania.specs.PatternType.{stair_bit};

@@ -1,4 +1,5 @@
 -- The facts in force at a slider of an accepted record lie in document 01's ranges, so it does not end before its rounded start. Assumes nothing.
+use Rattle.std.specs.Prelude.{if◌then◌else◌}
 use mathlib.Core.Path.{refl}
 use Prim.Native.Nat.{ℕ, ◌≤◌}
 use mathlib.Core.Bool.{Bool, true, false}
@@ -7,7 +8,6 @@ use lib.Dec.{lit≤}
 use lib.Ieee.{Float, binary64, round, le}
 use lib.Ieee.Fits.{round-fits}
 use Rattle.model.specs.Limits.{most_spans, longest_beat, longest_distance}
-use Rattle.rules.specs.Rule.{if◌then◌else◌}
 use Rattle.floats.specs.Laws.Values.{UpTo}
 use Rattle.floats.specs.Laws.Spans.{AtLeast}
 use Rattle.mania.specs.declared.Facts.{Facts}

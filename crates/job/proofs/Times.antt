@@ -1,4 +1,5 @@
 -- Times in range: what a note's start and duration come to in ticks, and when the chart reader takes the note. Assumes nothing.
+use Rattle.std.specs.Prelude.{if◌then◌else◌}
 use mathlib.Core.Path.{◌≡◌, refl, sym, ap, ◌∙◌, subst}
 use Prim.Native.Nat.{ℕ, zero, suc, ◌+◌, ◌-◌, ◌*◌, ◌^◌, ◌≤◌, ◌<◌}
 use native.Mathlib.Nat.{le_trans, le_of_eq, mul-one, mul-pos, mul-le-mul_right, le_of_mul-le-mul_right, zero-mul, add-mul}
@@ -15,7 +16,6 @@ use lib.Ieee.Back.{round_whole}
 use lib.Ieee.Positive.{num, den, den_pos, value→cross}
 use borrow.Author.Tests.{lt-ltb, le-leb, eqb-false}
 use Rattle.model.specs.Limits.{latest_start, latest_end}
-use Rattle.rules.specs.Rule.{if◌then◌else◌}
 use Rattle.floats.specs.Laws.Values.{Sized, UpTo, sized, rest_sized, end_at_most}
 use Rattle.floats.specs.Laws.Ranges.{le_sizes}
 use Rattle.floats.specs.Laws.Integers.{int_value, sub_ints}

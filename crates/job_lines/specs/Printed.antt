@@ -1,8 +1,7 @@
 -- What `hitobjects` prints for an input, as the other programs do (`job_text/specs/Printed`): it shows a chart's hit object lines. Assumes nothing.
-use Rattle.std.specs.Prelude.{List, ℕ}
+use Rattle.std.specs.Prelude.{List, ℕ, if◌then◌else◌}
 use Rattle.std.proofs.Math.Option.{Option, none, some}
 use Rattle.rules.specs.Numbers as Numbers
-use Rattle.rules.specs.Rule.{if◌then◌else◌}
 use Rattle.chart.specs.Chart.{Score, decode, draws_of}
 use Rattle.chart_text.specs.Text.{refusal_line}
 use Rattle.mania.specs.Job.{Job}

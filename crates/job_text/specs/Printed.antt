@@ -1,7 +1,6 @@
 -- What a program prints for an input: of its job what it shows of a chart, or the refusal's line. Assumes nothing.
-use Rattle.std.specs.Prelude.{List, [], ℕ, leb, length, take, replicate}
+use Rattle.std.specs.Prelude.{List, [], ℕ, leb, length, take, replicate, if◌then◌else◌}
 use Rattle.std.proofs.Math.Option.{Option, none, some}
-use Rattle.rules.specs.Rule.{if◌then◌else◌}
 use Rattle.text.specs.Text.{ascii}
 use Rattle.chart.specs.Chart.{Score, decode}
 use Rattle.chart_text.specs.Text.{text, refusal_line}

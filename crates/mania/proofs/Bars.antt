@@ -1,4 +1,5 @@
 -- A slider's notes in whole milliseconds: when two of them share no lane. Assumes nothing.
+use Rattle.std.specs.Prelude.{if◌then◌else◌}
 use mathlib.Core.Path.{◌≡◌, refl, sym, ap, ◌∙◌, subst}
 use Prim.Native.Nat.{ℕ, ◌*◌, ◌/◌, ◌^◌, ◌≤◌, ◌<◌}
 use native.Mathlib.Nat.{mul-div_cancel, mul-one, mul_right_comm, mul-lt-mul_of_pos_right, le_trans}
@@ -13,7 +14,6 @@ use lib.Ieee.Fits.{down_pos}
 use lib.Ieee.Exact.{HasValue}
 use lib.Ieee.Back.{round_whole}
 use borrow.Author.Tests.{eq-eqb}
-use Rattle.rules.specs.Rule.{if◌then◌else◌}
 use Rattle.floats.specs.Ticks.{ticks}
 use Rattle.chart.specs.Lanes.{extent_of, Covers, Apart}
 use Rattle.mania.specs.declared.Note.{Note}

@@ -1,4 +1,5 @@
 -- A circle is refused only by the deck, at a reverse stair of 8 columns from column 0. Assumes nothing.
+use Rattle.std.specs.Prelude.{if◌then◌else◌}
 use mathlib.Core.Path.{◌≡◌, refl, sym, ap, ◌∙◌, subst}
 use mathlib.Core.Logic.{◌⊎◌, inl, inr, ⊎_elim}
 use Prim.Native.Nat.{ℕ, zero, suc, ◌+◌, ◌-◌, ◌*◌, ◌/◌, ◌%◌, ◌^◌, ◌≤◌, ◌<◌}
@@ -9,7 +10,6 @@ use lib.Bits.{bit_or, or_zero_l}
 use lib.Ieee.{Float, round, sub, lt}
 use lib.ListN.{get_or}
 use borrow.Author.Tests.{eqb-true, eqb-false, ltb-true, ltb-false, eq-eqb, ne_eqb}
-use Rattle.rules.specs.Rule.{if◌then◌else◌}
 use Rattle.rules.specs.Refusal.{Refusal, off_deck, ObjectRule, long_search}
 use Rattle.random.specs.Generator.{unit}
 use Rattle.mania.specs.declared.Note.{Note}

@@ -1,4 +1,5 @@
 -- The notes of a circle are on columns of their own, and P holds of each where it holds of a circle at the start on each column. Assumes nothing.
+use Rattle.std.specs.Prelude.{if◌then◌else◌}
 use mathlib.Core.Path.{◌≡◌, refl, sym, ◌∙◌, subst}
 use mathlib.Core.Logic.{◌⊎◌, inl, inr, ⊎_elim}
 use Prim.Native.Nat.{ℕ, zero, suc, ◌+◌, ◌-◌, ◌/◌, ◌%◌, ◌^◌, ◌≤◌, ◌<◌}
@@ -8,7 +9,6 @@ use mathlib.Core.List.{List, [], ◌∷◌, ◌++◌}
 use lib.Dec.{eqb, ltb}
 use lib.Bits.{bit_or}
 use borrow.Author.Tests.{eqb-false, ltb-true}
-use Rattle.rules.specs.Rule.{if◌then◌else◌}
 use Rattle.random.specs.Generator.{unit}
 use Rattle.rules.specs.Laws.Each.{each_map}
 use Rattle.chart.specs.Lanes.{extent_of, Apart}

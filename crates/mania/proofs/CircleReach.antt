@@ -1,4 +1,5 @@
 -- With 8 columns a circle leaves at most five columns, and not column 0 alone, where the previous pattern has at most five. Assumes nothing.
+use Rattle.std.specs.Prelude.{if◌then◌else◌}
 use mathlib.Core.Path.{◌≡◌, refl, sym, ap, subst}
 use mathlib.Core.Logic.{inl, inr}
 use Prim.Native.Nat.{ℕ, zero, suc, ◌+◌, ◌-◌, ◌%◌, ◌≤◌, ◌<◌}
@@ -10,7 +11,7 @@ use lib.Bits.{bit_or}
 use lib.Count.{ones, ones_in}
 use lib.Ieee.{Float, binary64, sub, div, le, lt}
 use borrow.Author.Tests.{eqb-true, eqb-false}
-use Rattle.rules.specs.Rule.{give, if◌then◌else◌}
+use Rattle.rules.specs.Rule.{give}
 use Rattle.model.specs.declared.Object.{Object}
 use Rattle.mania.specs.declared.Facts.{Facts}
 use Rattle.mania.specs.declared.PrevValues.{PrevValues}

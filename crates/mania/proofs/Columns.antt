@@ -1,4 +1,5 @@
 -- What a search for a column gives. Assumes nothing.
+use Rattle.std.specs.Prelude.{if◌then◌else◌}
 use mathlib.Core.Path.{◌≡◌, refl}
 use Prim.Native.Nat.{ℕ, zero, suc, ◌+◌, ◌-◌, ◌/◌, ◌^◌, ◌≤◌, ◌<◌}
 use native.Mathlib.Omega.{arith}
@@ -6,7 +7,6 @@ use mathlib.Core.Bool.{Bool, true, false}
 use lib.Dec.{eqb}
 use lib.Ieee.{Float}
 use borrow.Author.Tests.{eqb-true}
-use Rattle.rules.specs.Rule.{if◌then◌else◌}
 use Rattle.random.specs.Generator.{between}
 use Rattle.random.specs.Laws.Range.{between_lt}
 use Rattle.mania.specs.declared.Next.{Next}

@@ -1,4 +1,5 @@
 -- An object makes at most 602 notes. Assumes nothing.
+use Rattle.std.specs.Prelude.{if◌then◌else◌}
 use mathlib.Core.Path.{◌≡◌, refl, sym, ap, ◌∙◌, subst}
 use Prim.Native.Nat.{ℕ, zero, suc, ◌+◌, ◌-◌, ◌*◌, ◌^◌, ◌≤◌, ◌<◌, min}
 use native.Mathlib.Nat.{le_refl, le_trans, mul-le-mul_right, mul-le-mul_left}
@@ -10,7 +11,7 @@ use lib.Ieee.{Float, lt}
 use lib.ListN.{length, take, length-append}
 use borrow.Author.Tests.{leb-false, ltb-false}
 use Rattle.model.specs.Limits.{most_repeats, most_spans, most_rows, most_notes, most_long_spans}
-use Rattle.rules.specs.Rule.{if◌then◌else◌, Rule, give, refuse, draw, draw_until, ended}
+use Rattle.rules.specs.Rule.{Rule, give, refuse, draw, draw_until, ended}
 use Rattle.random.specs.Generator.{seeded}
 use Rattle.mania.specs.declared.Facts.{Facts}
 use Rattle.mania.specs.declared.PrevValues.{PrevValues}

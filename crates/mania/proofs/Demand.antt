@@ -1,4 +1,5 @@
 -- What the notes of a walk have in common: the deck, the lanes and more. Assumes nothing.
+use Rattle.std.specs.Prelude.{if◌then◌else◌}
 use mathlib.Core.Path.{◌≡◌, refl, sym, subst}
 use Prim.Native.Nat.{ℕ, suc, ◌+◌, ◌-◌, ◌*◌, ◌/◌, ◌≤◌, ◌<◌}
 use native.Mathlib.Nat.{div-mul-le_self, mul-pos}
@@ -9,7 +10,7 @@ use lib.Dec.{eqb, leb, ltb, lit≤}
 use lib.Ieee.{Float, le, lt}
 use lib.ListN.{length}
 use borrow.Author.Tests.{eqb-false}
-use Rattle.rules.specs.Rule.{if◌then◌else◌, ended}
+use Rattle.rules.specs.Rule.{ended}
 use Rattle.random.specs.Generator.{seeded}
 use Rattle.model.specs.declared.Settings.{Settings}
 use Rattle.mania.specs.declared.Facts.{Facts}

@@ -1,4 +1,5 @@
 -- 8 in a walk: the objects before the late slider made their notes, and it draws nothing. Assumes nothing.
+use Rattle.std.specs.Prelude.{if◌then◌else◌}
 use mathlib.Core.Path.{◌≡◌, refl, sym, ap, ◌∙◌, subst}
 use Prim.Native.Nat.{ℕ, suc, ◌+◌, ◌-◌, ◌≤◌, max}
 use native.Mathlib.Nat.{add-zero, zero-add}
@@ -10,7 +11,7 @@ use lib.Dec.{ltb}
 use lib.ListN.{length, take}
 use lib.Pow.{pow_pos}
 use borrow.Author.Tests.{ltb-false}
-use Rattle.rules.specs.Rule.{Rule, refuse, Outcome, ended, run, taken, Done, if◌then◌else◌}
+use Rattle.rules.specs.Rule.{Rule, refuse, Outcome, ended, run, taken, Done}
 use Rattle.rules.specs.Rule as Rule
 use Rattle.rules.specs.Ledger.{longest}
 use Rattle.rules.specs.Refusal.{late_end, too_short, ObjectRule, number}

@@ -1,5 +1,6 @@
 -- 11 in a walk: the notes of the objects before fit; with room enough the next one makes notes too, after the same draws, and a chart of them is longer
 -- than the buffer. Assumes nothing.
+use Rattle.std.specs.Prelude.{if◌then◌else◌}
 use mathlib.Core.Path.{◌≡◌, refl, sym, ap, ◌∙◌, subst}
 use mathlib.Core.Logic.{◌⊎◌, inl, inr}
 use Prim.Native.Nat.{ℕ, suc, ◌+◌, ◌-◌, ◌^◌, ◌≤◌, ◌<◌, max}
@@ -12,7 +13,7 @@ use lib.Dec.{ltb}
 use lib.ListN.{length, take, length-append}
 use lib.Pow.{pow_pos}
 use borrow.Author.Tests.{ltb-true, ltb-false, le-ltb}
-use Rattle.rules.specs.Rule.{Rule, refuse, Outcome, ended, run, taken, Done, if◌then◌else◌}
+use Rattle.rules.specs.Rule.{Rule, refuse, Outcome, ended, run, taken, Done}
 use Rattle.rules.specs.Ledger.{longest}
 use Rattle.rules.specs.Refusal.{too_short, ObjectRule}
 use Rattle.rules.specs.Rule as Rule

@@ -1,4 +1,5 @@
 -- How many columns of a range a mask has free. Assumes nothing.
+use Rattle.std.specs.Prelude.{if◌then◌else◌}
 use mathlib.Core.Path.{◌≡◌, refl, sym, ap, ◌∙◌}
 use Prim.Native.Nat.{ℕ, zero, suc, ◌+◌, ◌-◌, ◌/◌, ◌%◌, ◌^◌, ◌≤◌, ◌<◌, max}
 use native.Mathlib.Nat.{div-one, zero-div, one-mul, div-eq_of_lt}
@@ -10,7 +11,6 @@ use lib.Pow.{pow-lt, pow-add, shl-shr, shr-shr}
 use lib.Count.{ones, ones_step}
 use lib.Bits.{bit_or, shifted_even}
 use borrow.Author.Tests.{eqb-true, eqb-false, eq-eqb, ltb-true, ltb-false}
-use Rattle.rules.specs.Rule.{if◌then◌else◌}
 use Rattle.mania.specs.Pattern.{free, any_free}
 use Rattle.mania.proofs.Masks.{bit, free_bit, taken_bit, or_bit}
 

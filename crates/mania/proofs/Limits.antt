@@ -1,4 +1,5 @@
 -- Every search of the conversion may make `search_limit` draws, and 16 comes from a search alone. Assumes nothing.
+use Rattle.std.specs.Prelude.{if◌then◌else◌}
 use mathlib.Core.Path.{◌≡◌, refl, ap}
 use Prim.Native.Nat.{ℕ, zero, suc, ◌+◌, ◌-◌, ◌*◌, ◌≤◌}
 use native.Mathlib.Omega.{arith}
@@ -8,7 +9,7 @@ use lib.Dec.{eqb, leb, ltb}
 use lib.Ieee.{Float, lt}
 use lib.ListN.{length}
 use lib.Count.{ones}
-use Rattle.rules.specs.Rule.{if◌then◌else◌, give, refuse, ◌>>=◌, refused}
+use Rattle.rules.specs.Rule.{give, refuse, ◌>>=◌, refused}
 use Rattle.rules.specs.Refusal.{Refusal, late_end, no_column, off_deck, too_short, long_search, ObjectRule}
 use Rattle.rules.specs.Ledger.{largest}
 use Rattle.rules.specs.Limited.{Limited, last_or}

@@ -1,4 +1,5 @@
 -- The pattern that an object leaves to the next one has as many notes as its mask has ones. Assumes nothing.
+use Rattle.std.specs.Prelude.{if◌then◌else◌}
 use mathlib.Core.Path.{◌≡◌, refl, sym, ap, ◌∙◌}
 use Prim.Native.Nat.{ℕ, ◌+◌, ◌^◌, ◌≤◌}
 use native.Mathlib.Nat.{le_trans}
@@ -11,7 +12,6 @@ use lib.Dec.{eqb, lit≤}
 use lib.Ieee.{Float}
 use lib.ListN.{length}
 use borrow.Author.Tests.{eqb-true}
-use Rattle.rules.specs.Rule.{if◌then◌else◌}
 use Rattle.model.specs.declared.Object.{Object}
 use Rattle.model.specs.declared.Distance.{Distance}
 use Rattle.model.specs.declared.NodeSound.{NodeSound}

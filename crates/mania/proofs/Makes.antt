@@ -1,4 +1,5 @@
 -- What holds of all that a rule can give: the steps of such a proof. Assumes nothing.
+use Rattle.std.specs.Prelude.{if◌then◌else◌}
 use mathlib.Core.Path.{◌≡◌, refl, ap, ◌∙◌}
 use Prim.Native.Nat.{ℕ, ◌^◌, ◌<◌}
 use mathlib.Core.Bool.{Bool, true, false}
@@ -6,7 +7,7 @@ use mathlib.Core.List.{List, [], ◌∷◌, ◌++◌}
 use lib.Dec.{ltb}
 use borrow.Author.Tests.{ltb-true}
 use Rattle.rules.specs.Laws.Each.{each_map}
-use Rattle.rules.specs.Rule.{if◌then◌else◌, Rule, give, refuse, draw, draw_until, ◌>>=◌, label, ended, run}
+use Rattle.rules.specs.Rule.{Rule, give, refuse, draw, draw_until, ◌>>=◌, label, ended, run}
 use Rattle.random.specs.Generator.{values}
 use Rattle.random.specs.Play.{tallied, value}
 use Rattle.random.specs.declared.Random.{Random}

@@ -1,10 +1,11 @@
 -- What holds of all that a rule can give, and of all that it can refuse by, its draws being below 2 ^ 31. Assumes nothing.
+use Rattle.std.specs.Prelude.{if◌then◌else◌}
 use mathlib.Core.Path.{◌≡◌, refl, subst}
 use Prim.Native.Nat.{ℕ, zero, suc, ◌^◌, ◌<◌}
 use mathlib.Core.Bool.{Bool, true, false}
 use mathlib.Core.List.{List, [], ◌∷◌}
 use borrow.Author.Tests.{lt-ltb}
-use Rattle.rules.specs.Rule.{if◌then◌else◌, Rule, give, refuse, draw, draw_until, ◌>>=◌, label, Outcome, ended, refused, spent, after, drawing_until, run}
+use Rattle.rules.specs.Rule.{Rule, give, refuse, draw, draw_until, ◌>>=◌, label, Outcome, ended, refused, spent, after, drawing_until, run}
 use Rattle.random.specs.Generator.{next, values}
 use Rattle.random.specs.Play.{value}
 use Rattle.random.specs.declared.Random.{Random}

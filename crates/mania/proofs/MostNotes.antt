@@ -1,4 +1,5 @@
 -- The most notes that one object can make, from the bound on what every rule of an object makes (`Counts`) and an object that makes as many. Assumes nothing.
+use Rattle.std.specs.Prelude.{if◌then◌else◌}
 use mathlib.Core.Path.{◌≡◌, refl, subst}
 use Prim.Native.Nat.{ℕ, ◌*◌, ◌≤◌, ◌<◌}
 use native.Mathlib.Omega.{arith}
@@ -9,7 +10,7 @@ use lib.ListN.{length}
 use borrow.Author.Tests.{eqb-true, eqb-false}
 use Rattle.model.specs.Limits.{most_repeats, most_notes}
 use Rattle.rules.specs.Numbers as Numbers
-use Rattle.rules.specs.Rule.{Outcome, ended, refused, spent, run, if◌then◌else◌}
+use Rattle.rules.specs.Rule.{Outcome, ended, refused, spent, run}
 use Rattle.rules.specs.Refusal.{Refusal}
 use Rattle.random.specs.Generator.{values, seeded}
 use Rattle.random.specs.declared.Random.{Random}

@@ -1,4 +1,5 @@
 -- How many notes a draw can mean: a chance of 0 means none of its number. Assumes nothing.
+use Rattle.std.specs.Prelude.{if◌then◌else◌}
 use mathlib.Core.Path.{◌≡◌, refl, sym, ap, ◌∙◌, subst}
 use Prim.Native.Nat.{ℕ, ◌*◌, ◌^◌, ◌≤◌, ◌<◌}
 use native.Mathlib.Nat.{le_of_mul-le-mul_right, mul_comm, mul-le-mul_right}
@@ -9,7 +10,6 @@ use lib.Ieee.{Float, binary64, round, sub, le}
 use lib.Ieee.Exact.{HasValue}
 use lib.Ieee.Back.{round_whole}
 use lib.Ieee.Positive.{num, den, den_pos, value→cross}
-use Rattle.rules.specs.Rule.{if◌then◌else◌}
 use Rattle.rules.specs.Refusal.{Refusal}
 use Rattle.random.specs.Generator.{unit}
 use Rattle.random.specs.Laws.Unit.{unit_exact}

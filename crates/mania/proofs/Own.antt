@@ -1,11 +1,12 @@
 -- The draws that a column search gives back are those that it made, and its ledger has none of them outside a search. Assumes nothing.
+use Rattle.std.specs.Prelude.{if◌then◌else◌}
 use mathlib.Core.Path.{◌≡◌, refl, ap, subst}
 use Prim.Native.Nat.{ℕ, zero, suc, ◌+◌, ◌-◌}
 use native.Mathlib.Omega.{arith}
 use mathlib.Core.Bool.{Bool, true, false}
 use mathlib.Core.List.{List, [], ◌∷◌}
 use Rattle.rules.specs.Rule as Rule
-use Rattle.rules.specs.Rule.{if◌then◌else◌, give, refuse, Outcome, ended, refused, spent, after, drawing_until, run}
+use Rattle.rules.specs.Rule.{give, refuse, Outcome, ended, refused, spent, after, drawing_until, run}
 use Rattle.rules.specs.Ledger.{Ledger, ledger_until, ledger, sum}
 use Rattle.rules.proofs.Laws.Ledger.{all_counted}
 use Rattle.rules.specs.Refusal.{Refusal, ObjectRule, no_column, long_search}

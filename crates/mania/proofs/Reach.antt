@@ -1,4 +1,5 @@
 -- What a song's walk reaches: with 8 columns at most five columns and not column 0 alone, so that 9 and 10 don't come. Assumes nothing.
+use Rattle.std.specs.Prelude.{if◌then◌else◌}
 use mathlib.Core.Path.{◌≡◌, refl, sym, ap, ◌∙◌, subst}
 use mathlib.Core.Logic.{◌⊎◌, inl, inr, ⊎_elim}
 use Prim.Native.Nat.{ℕ, zero, suc, ◌+◌, ◌^◌, ◌≤◌, ◌<◌}
@@ -11,7 +12,7 @@ use lib.Count.{ones, ones_in}
 use lib.ListN.{length}
 use lib.Pow.{pow_pos}
 use borrow.Author.Tests.{eqb-true, eqb-false, eq-eqb, le-leb, lt-ltb}
-use Rattle.rules.specs.Rule.{Rule, if◌then◌else◌, ended, run}
+use Rattle.rules.specs.Rule.{Rule, ended, run}
 use Rattle.rules.specs.Refusal.{Refusal, late_end, no_column, off_deck, too_short, long_search}
 use Rattle.random.specs.Generator.{values}
 use Rattle.random.specs.declared.Random.{Random}

@@ -1,11 +1,11 @@
 -- Searches that are not refused: one column of their range is free. Assumes nothing.
+use Rattle.std.specs.Prelude.{if◌then◌else◌}
 use mathlib.Core.Path.{◌≡◌, refl, sym, ap, ◌∙◌, subst}
 use Prim.Native.Nat.{ℕ, zero, suc, ◌+◌, ◌-◌, ◌≤◌, ◌<◌}
 use native.Mathlib.Omega.{arith}
 use mathlib.Core.Bool.{Bool, true, false}
 use lib.Dec.{eqb, ltb}
 use borrow.Author.Tests.{eqb-true, eqb-false, ltb-true, ltb-false, ne_eqb}
-use Rattle.rules.specs.Rule.{if◌then◌else◌}
 use Rattle.rules.specs.Refusal.{Refusal, no_column, long_search}
 use Rattle.random.specs.Generator.{between}
 use Rattle.mania.specs.declared.Next.{Next}

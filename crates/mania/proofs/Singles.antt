@@ -1,4 +1,5 @@
 -- The claims of the single-object entry. Assumes nothing.
+use Rattle.std.specs.Prelude.{if◌then◌else◌}
 use mathlib.Core.Path.{◌≡◌, refl, sym, ap, ◌∙◌, subst}
 use mathlib.Core.Logic.{◌⊎◌, inl}
 use Prim.Native.Nat.{ℕ, ◌-◌, ◌*◌, ◌^◌, ◌≤◌, ◌<◌, max}
@@ -10,7 +11,7 @@ use lib.Arith.{sub-sub_self}
 use lib.Dec.{eqb, ltb}
 use lib.ListN.{length}
 use borrow.Author.Tests.{ltb-true, ltb-false, lt-ltb, eqb-true, eqb-false}
-use Rattle.rules.specs.Rule.{Outcome, ended, spent, run, taken, Done, refuse, give, if◌then◌else◌}
+use Rattle.rules.specs.Rule.{Outcome, ended, spent, run, taken, Done, refuse, give}
 use Rattle.rules.specs.Rule as Rule
 use Rattle.rules.specs.Ledger.{longest}
 use Rattle.rules.proofs.Laws.Limited.{refused_full}

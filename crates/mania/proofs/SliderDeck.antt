@@ -1,4 +1,5 @@
 -- The mask and the last column that a slider leaves lie on the deck, and that column is one of the mask's. Assumes nothing.
+use Rattle.std.specs.Prelude.{if◌then◌else◌}
 use mathlib.Core.Path.{◌≡◌, refl, sym, ap, ◌∙◌}
 use mathlib.Core.Logic.{inl, inr}
 use Prim.Native.Nat.{ℕ, zero, suc, ◌-◌, ◌^◌, ◌<◌}
@@ -9,7 +10,6 @@ use lib.Bits.{bit_or, or_lt}
 use lib.Pow.{pow_pos, pow-lt}
 use lib.Ieee.{lt}
 use lib.ListN.{length}
-use Rattle.rules.specs.Rule.{if◌then◌else◌}
 use Rattle.mania.specs.declared.SliderNote.{SliderNote}
 use Rattle.mania.specs.declared.PathObjectPatternGenerator.{PathObjectPatternGenerator}
 use Rattle.mania.specs.Steps.{double}

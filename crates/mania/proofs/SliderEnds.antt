@@ -1,4 +1,5 @@
 -- What a slider, and a spinner or hold, is refused by: a late end, or a search that the previous pattern leaves no column. Assumes nothing.
+use Rattle.std.specs.Prelude.{if◌then◌else◌}
 use mathlib.Core.Path.{◌≡◌, refl, sym, ap, subst}
 use Prim.Native.Nat.{ℕ, zero, suc, ◌+◌, ◌-◌, ◌^◌, ◌≤◌, ◌<◌, min}
 use native.Mathlib.Nat.{le_trans}
@@ -9,7 +10,6 @@ use lib.Bits.{bit_or, or_zero_l, or_zero_r}
 use lib.Count.{ones, ones-le}
 use lib.Ieee.{Float, round, sub, lt}
 use borrow.Author.Tests.{eqb-true, eqb-false, ltb-true, leb-true}
-use Rattle.rules.specs.Rule.{if◌then◌else◌}
 use Rattle.rules.specs.Refusal.{Refusal, late_end, no_column, ObjectRule, long_search}
 use Rattle.random.specs.Generator.{between}
 use Rattle.random.specs.Laws.Range.{between_lt}

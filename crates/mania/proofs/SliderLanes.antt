@@ -1,4 +1,5 @@
 -- No two notes of a slider share a lane, and B holds of each of its bars where it holds of those that can come. Assumes nothing.
+use Rattle.std.specs.Prelude.{if◌then◌else◌}
 use mathlib.Core.Path.{◌≡◌, refl, sym, subst}
 use mathlib.Core.Logic.{◌⊎◌, inl, inr, ⊎_elim}
 use Prim.Native.Nat.{ℕ, zero, suc, ◌+◌, ◌-◌, ◌*◌, ◌/◌, ◌^◌, ◌≤◌, ◌<◌, min}
@@ -11,7 +12,6 @@ use lib.Bits.{bit_or}
 use lib.Count.{ones}
 use lib.Ieee.{Float, lt}
 use borrow.Author.Tests.{eqb-true, ltb-true, ltb-false, leb-true, leb-false}
-use Rattle.rules.specs.Rule.{if◌then◌else◌}
 use Rattle.random.specs.Generator.{between}
 use Rattle.random.specs.Laws.Range.{between_lt}
 use Rattle.rules.specs.Laws.Each.{each_map}

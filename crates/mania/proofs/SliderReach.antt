@@ -1,4 +1,5 @@
 -- With 8 columns a slider leaves at most five columns, and not column 0 alone, where the previous pattern has at most five. Assumes nothing.
+use Rattle.std.specs.Prelude.{if◌then◌else◌}
 use mathlib.Core.Path.{◌≡◌, refl, sym, ap, ◌∙◌, subst}
 use mathlib.Core.Logic.{◌⊎◌, inl, inr, ⊎_elim}
 use Prim.Native.Nat.{ℕ, zero, suc, ◌+◌, ◌-◌, ◌^◌, ◌≤◌, ◌<◌, min}
@@ -12,7 +13,6 @@ use lib.Count.{ones, ones_in}
 use lib.Ieee.{lt}
 use lib.ListN.{length, length-append}
 use borrow.Author.Tests.{eqb-true, ltb-true, ltb-false, leb-false}
-use Rattle.rules.specs.Rule.{if◌then◌else◌}
 use Rattle.random.specs.Generator.{between}
 use Rattle.mania.specs.declared.SliderNote.{SliderNote}
 use Rattle.mania.specs.declared.PathObjectPatternGenerator.{PathObjectPatternGenerator}

@@ -1,8 +1,8 @@
 -- convert/mod.rs: the seed, the column count and the walk over a song's objects. Assumes nothing.
-use Rattle.std.specs.Prelude.{ℕ, zero, suc, ◌+◌, ◌*◌, min, max, ◌||◌, List, [], ◌∷◌, eqb, leb, ltb, Float, length}
+use Rattle.std.specs.Prelude.{ℕ, zero, suc, ◌+◌, ◌*◌, min, max, ◌||◌, List, [], ◌∷◌, eqb, leb, ltb, Float, length, if◌then◌else◌}
 use Rattle.std.specs.Float.{binary32, binary64}
 use Rattle.std.specs.Float.Ieee.{add, mul, div, lt}
-use Rattle.rules.specs.Rule.{Rule, give, refuse, label, ◌>>=◌, if◌then◌else◌}
+use Rattle.rules.specs.Rule.{Rule, give, refuse, label, ◌>>=◌}
 use Rattle.rules.specs.Refusal.{Refusal, too_short, ObjectRule}
 use Rattle.floats.specs.Whole.{count}
 use Rattle.floats.specs.declared.Way.TheVariants.{Cut, Even}

@@ -1,10 +1,10 @@
 -- pattern_generator/end_time_object.rs: a spinner or a hold. Assumes nothing.
-use Rattle.std.specs.Prelude.{ℕ, true, ◌&&◌, eqb, Float}
+use Rattle.std.specs.Prelude.{ℕ, true, ◌&&◌, eqb, Float, if◌then◌else◌}
 use Rattle.std.specs.Int.Count.{ones}
 use Rattle.std.specs.Float.{binary64}
 use Rattle.std.specs.Float.Ieee.{le, lt}
 use Rattle.std.specs.Float.Ieee as Ieee
-use Rattle.rules.specs.Rule.{give, ◌>>=◌, if◌then◌else◌}
+use Rattle.rules.specs.Rule.{give, ◌>>=◌}
 use Rattle.rules.specs.Refusal.{ObjectRule}
 use Rattle.mania.specs.declared.PrevValues.{PrevValues}
 use Rattle.model.specs.declared.Object.{Object}

@@ -1,11 +1,11 @@
 -- pattern_generator/hit_object.rs: a circle. Assumes nothing.
-use Rattle.std.specs.Prelude.{ℕ, zero, suc, ◌+◌, ◌-◌, ◌/◌, ◌%◌, min, Bool, not, ◌&&◌, ◌||◌, List, [], ◌∷◌, eqb, ltb, Float, get_or}
+use Rattle.std.specs.Prelude.{ℕ, zero, suc, ◌+◌, ◌-◌, ◌/◌, ◌%◌, min, Bool, not, ◌&&◌, ◌||◌, List, [], ◌∷◌, eqb, ltb, Float, get_or, if◌then◌else◌}
 use Rattle.std.specs.Int.Bits.{bit_or}
 use Rattle.std.specs.Int.Count.{ones}
 use Rattle.std.specs.Float.{binary32, binary64}
 use Rattle.std.specs.Float.Ieee.{le, lt}
 use Rattle.std.specs.Float.Ieee as Ieee
-use Rattle.rules.specs.Rule.{give, ◌>>=◌, if◌then◌else◌}
+use Rattle.rules.specs.Rule.{give, ◌>>=◌}
 use Rattle.rules.specs.Refusal.{ObjectRule}
 use Rattle.random.specs.Generator.{unit}
 use Rattle.random.specs.Play.{value}

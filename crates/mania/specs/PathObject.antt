@@ -1,12 +1,12 @@
 -- pattern_generator/path_object.rs: a slider, in whole milliseconds. Assumes nothing.
-use Rattle.std.specs.Prelude.{ℕ, zero, suc, ◌+◌, ◌-◌, ◌*◌, ◌/◌, ◌^◌, min, Bool, true, not, ◌&&◌, ◌||◌, List, [], ◌∷◌, ◌++◌, map, eqb, leb, ltb, Float, length, get_or}
+use Rattle.std.specs.Prelude.{ℕ, zero, suc, ◌+◌, ◌-◌, ◌*◌, ◌/◌, ◌^◌, min, Bool, true, not, ◌&&◌, ◌||◌, List, [], ◌∷◌, ◌++◌, map, eqb, leb, ltb, Float, length, get_or, if◌then◌else◌}
 use Rattle.std.specs.Int.Bits.{bit_or}
 use Rattle.std.specs.Int.Count.{ones}
 use Rattle.std.specs.Float.{binary64}
 use Rattle.std.specs.Float.Ieee.{neg, lt}
 use Rattle.std.specs.Float.Ieee as Ieee
 use Rattle.model.specs.Limits.{latest_end}
-use Rattle.rules.specs.Rule.{give, refuse, ◌>>=◌, if◌then◌else◌}
+use Rattle.rules.specs.Rule.{give, refuse, ◌>>=◌}
 use Rattle.rules.specs.Refusal.{ObjectRule, late_end}
 use Rattle.random.specs.Generator.{between, unit}
 use Rattle.random.specs.Play.{value}

@@ -1,7 +1,7 @@
 -- `Pattern` of convert/pattern.rs: the mask of its columns, its last column and its notes in walk order. Assumes nothing.
-use Rattle.std.specs.Prelude.{ℕ, zero, suc, ◌/◌, ◌%◌, ◌^◌, Bool, false, ◌||◌, List, [], ◌∷◌, ◌++◌, eqb, ltb}
+use Rattle.std.specs.Prelude.{ℕ, zero, suc, ◌/◌, ◌%◌, ◌^◌, Bool, false, ◌||◌, List, [], ◌∷◌, ◌++◌, eqb, ltb, if◌then◌else◌}
 use Rattle.std.specs.Int.Bits.{bit_or}
-use Rattle.rules.specs.Rule.{give, refuse, if◌then◌else◌}
+use Rattle.rules.specs.Rule.{give, refuse}
 use Rattle.rules.specs.Refusal.{ObjectRule, off_deck}
 
 -- A mask has bit c set where column c is taken. `column_has_obj`, the other way round: column c is free

@@ -1,8 +1,8 @@
 -- pattern_generator/mod.rs, and `find_available_column` of the three generators. Assumes nothing.
-use Rattle.std.specs.Prelude.{ℕ, zero, suc, ◌+◌, ◌-◌, List, eqb, ℤ, pos, negsuc, Float, length}
+use Rattle.std.specs.Prelude.{ℕ, zero, suc, ◌+◌, ◌-◌, List, eqb, ℤ, pos, negsuc, Float, length, if◌then◌else◌}
 use Rattle.std.specs.Float.{binary32, binary64}
 use Rattle.std.specs.Float.Ieee.{of_int, add, sub, mul, div, le}
-use Rattle.rules.specs.Rule.{give, refuse, draw_until, ◌>>=◌, if◌then◌else◌}
+use Rattle.rules.specs.Rule.{give, refuse, draw_until, ◌>>=◌}
 use Rattle.rules.specs.Refusal.{ObjectRule, no_column, long_search}
 use Rattle.random.specs.Generator.{between, unit}
 use Rattle.random.specs.Play.{value}

@@ -1,8 +1,8 @@
 -- Document 01: a previous pattern lists each column once. So its mask tells how many notes it has, and a mask with one bit (`alone` of HitObject) stands
 -- for the Rust's `prev_pattern.hit_objects.len() == 1`. Assumes nothing.
-use Rattle.std.specs.Prelude.{◌≡◌, ℕ, ◌+◌, ◌≤◌, eqb, Float, length}
+use Rattle.std.specs.Prelude.{◌≡◌, ℕ, ◌+◌, ◌≤◌, eqb, Float, length, if◌then◌else◌}
 use Rattle.std.specs.Int.Count.{ones}
-use Rattle.rules.specs.Rule.{ended, run, if◌then◌else◌}
+use Rattle.rules.specs.Rule.{ended, run}
 use Rattle.random.specs.Generator.{values}
 use Rattle.random.specs.declared.Random.{Random}
 use Rattle.model.specs.declared.Object.{Object}

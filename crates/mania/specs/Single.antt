@@ -1,10 +1,10 @@
 -- The single-object entry: its checks, and what it gives. Assumes nothing.
-use Rattle.std.specs.Prelude.{ℕ, ◌*◌, ◌^◌, Bool, true, not, ◌&&◌, List, eqb, leb, ltb, Float, length}
+use Rattle.std.specs.Prelude.{ℕ, ◌*◌, ◌^◌, Bool, true, not, ◌&&◌, List, eqb, leb, ltb, Float, length, if◌then◌else◌}
 use Rattle.std.specs.Float.Ieee.{le}
 use Rattle.std.specs.Float.Ieee.Scale.{finite}
 use Rattle.model.specs.Limits.{Range, most_repeats, multiplier_range, beat_range, velocity_range, span_range, coordinate_range, distance_range, most_difficulty}
 use Rattle.rules.specs.Numbers as Numbers
-use Rattle.rules.specs.Rule.{Outcome, ended, refused, spent, give, refuse, run, ◌>>=◌, if◌then◌else◌}
+use Rattle.rules.specs.Rule.{Outcome, ended, refused, spent, give, refuse, run, ◌>>=◌}
 use Rattle.rules.specs.Refusal.{Refusal, too_short, number, spent_number, ObjectRule}
 use Rattle.floats.specs.Range.{in_range}
 use Rattle.random.specs.Generator.{values, steps}

@@ -1,7 +1,7 @@
 -- What is claimed of the single-object entry. Assumes nothing.
-use Rattle.std.specs.Prelude.{◌≡◌, ◌⊎◌, ℕ, ◌*◌, ◌^◌, ◌≤◌, ◌<◌, List, eqb, length}
+use Rattle.std.specs.Prelude.{◌≡◌, ◌⊎◌, ℕ, ◌*◌, ◌^◌, ◌≤◌, ◌<◌, List, eqb, length, if◌then◌else◌}
 use Rattle.rules.specs.Numbers as Numbers
-use Rattle.rules.specs.Rule.{Outcome, ended, refused, spent, run, taken, if◌then◌else◌}
+use Rattle.rules.specs.Rule.{Outcome, ended, refused, spent, run, taken}
 use Rattle.rules.specs.Ledger.{Ledger, ledger}
 use Rattle.rules.specs.Limited.{last_or}
 use Rattle.rules.specs.Refusal.{Refusal, long_search, spent_number}

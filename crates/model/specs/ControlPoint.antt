@@ -1,9 +1,8 @@
 -- The control points in force at a time: control_point/timing.rs, difficulty.rs and effect.rs. The times of each list rise strictly.
 -- Assumes nothing.
-use Rattle.std.specs.Prelude.{Bool, false, List, [], ◌∷◌, Float}
+use Rattle.std.specs.Prelude.{Bool, false, List, [], ◌∷◌, Float, if◌then◌else◌}
 use Rattle.std.specs.Float.{binary64}
 use Rattle.std.specs.Float.Ieee.{round, le}
-use Rattle.rules.specs.Rule.{if◌then◌else◌}
 use Rattle.model.specs.declared.TimingPoint.{TimingPoint}
 use Rattle.model.specs.declared.DifficultyPoint.{DifficultyPoint}
 use Rattle.model.specs.declared.EffectPoint.{EffectPoint}

@@ -1,4 +1,5 @@
 -- Columns of words: they have four bits, and of circles, spinners and holds the notes differ in nothing else. Assumes nothing.
+use Rattle.std.specs.Prelude.{if◌then◌else◌}
 use mathlib.Core.Path.{◌≡◌, refl, sym, subst}
 use Prim.Native.Nat.{ℕ, ◌%◌, ◌^◌, ◌<◌}
 use native.Mathlib.Nat.{mod-lt}
@@ -6,7 +7,6 @@ use mathlib.Core.Bool.{Bool, true, false}
 use lib.Dec.{eqb}
 use lib.Ieee.{Float, le}
 use lib.Pow.{pow_pos}
-use Rattle.rules.specs.Rule.{if◌then◌else◌}
 use Rattle.chart.specs.Layout.{indices}
 use Rattle.chart.specs.Chart.{index}
 use Rattle.chart.specs.declared.Origin.TheVariants as Origin

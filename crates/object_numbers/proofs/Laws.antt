@@ -1,5 +1,5 @@
 -- A number that its field cannot hold is refused as the field's largest value is. Assumes nothing.
-use Rattle.std.specs.Prelude.{◌≡◌, Bool, true, false, not, ◌&&◌, cond, List, eqb, leb, Float}
+use Rattle.std.specs.Prelude.{◌≡◌, Bool, true, false, not, ◌&&◌, cond, List, eqb, leb, Float, if◌then◌else◌}
 use Rattle.std.proofs.Math.Path.{refl, ap₂}
 use Rattle.std.proofs.Common.{sym, ap, ◌∙◌, arith, lit<, pow_mono}
 use Prim.Native.Nat.{ℕ, zero, suc, ◌^◌, ◌≤◌, ◌<◌, min}
@@ -7,7 +7,6 @@ use Rattle.std.proofs.Math.Dec.{ltb, leb-suc-suc}
 use Rattle.std.specs.Float.Ieee.Scale.{finite}
 use borrow.Author.Tests.{eqb-true, eqb-false, leb-true, ltb-true, ltb-false, lt-ltb, le-ltb}
 use Rattle.rules.specs.Numbers as Numbers
-use Rattle.rules.specs.Rule.{if◌then◌else◌}
 use Rattle.random.specs.declared.Random.{Random}
 use Rattle.model.specs.Limits.{most_repeats, most_spans, span_range}
 use Rattle.model.specs.declared.Distance.{Distance}

@@ -1,4 +1,5 @@
 -- The split of a slider's pattern, as the walk order of its notes. Assumes nothing.
+use Rattle.std.specs.Prelude.{if◌then◌else◌}
 use mathlib.Core.Path.{◌≡◌, refl, ap, ◌∙◌}
 use Prim.Native.Nat.{ℕ, suc, ◌≤◌, ◌<◌}
 use native.Mathlib.Omega.{arith}
@@ -7,7 +8,6 @@ use mathlib.Core.List.{List, [], ◌∷◌, ◌++◌, map}
 use lib.Dec.{eqb}
 use borrow.Author.Tests.{lt-ltb, le-ltb, ne_eqb}
 use lib.ListN.{length, take}
-use Rattle.rules.specs.Rule.{if◌then◌else◌}
 use Rattle.random.specs.Play.{found, refused, play, on}
 use Rattle.random.specs.declared.Draws.{Draws}
 use Rattle.random.specs.Laws.On.{found_bind, refused_bind}

@@ -2,11 +2,10 @@
 // lent buffer.
 #![tactic(auto)]
 
-ghost use Rattle.std.specs.Prelude.{◌≡◌, leb, ltb, ◌-◌, ◌*◌, ◌≤◌, ◌<◌, length};
+ghost use Rattle.std.specs.Prelude.{◌≡◌, leb, ltb, ◌-◌, ◌*◌, ◌≤◌, ◌<◌, length, if◌then◌else◌};
 ghost use Rattle.model.specs.Limits.{most_notes};
 ghost use Rattle.mania.specs.PatternType.{force_not_stack, ◌⊔ₜ◌};
 ghost use Rattle.std.specs.Int.Count.{ones};
-ghost use Rattle.rules.specs.Rule.{if◌then◌else◌};
 ghost use Rattle.random.specs.Play.{on};
 ghost use Rattle.mania.specs.PathObject as Path;
 ghost use Rattle.pattern.specs.Answers.{Generates};

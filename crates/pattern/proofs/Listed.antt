@@ -1,4 +1,5 @@
 -- The number of ones of a mask is the number of columns that it lists. Assumes nothing.
+use Rattle.std.specs.Prelude.{if◌then◌else◌}
 use mathlib.Core.Path.{◌≡◌, refl, sym, ap, ◌∙◌}
 use Prim.Native.Nat.{ℕ, zero, suc, ◌+◌, ◌*◌, ◌/◌, ◌^◌, ◌<◌}
 use native.Mathlib.Nat.{div-div-eq-div-mul, div-one, pow-suc, zero-add}
@@ -7,7 +8,6 @@ use mathlib.Core.Bool.{Bool, true, false}
 use mathlib.Core.List.{List, ◌∷◌}
 use lib.Count.{ones, ones_step}
 use lib.ListN.{length}
-use Rattle.rules.specs.Rule.{if◌then◌else◌}
 use Rattle.mania.specs.Pattern.{free}
 use Rattle.mania.proofs.Masks.{free_bit, taken_bit}
 use Rattle.pattern.specs.Listed.{listed}

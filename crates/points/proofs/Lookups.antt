@@ -1,4 +1,5 @@
 -- Laws of the lookup: how many points are passed at a time, how long there are as many, and what their number says of the point in force. Assumes nothing.
+use Rattle.std.specs.Prelude.{if◌then◌else◌}
 use mathlib.Core.Path.{◌≡◌, refl, sym, ap, ◌∙◌}
 use Prim.Native.Nat.{ℕ, zero, suc, ◌+◌, ◌-◌, ◌*◌, ◌≤◌, ◌<◌}
 use mathlib.Core.Bool.{Bool, true, false, not, ◌&&◌, cond}
@@ -8,7 +9,6 @@ use native.Mathlib.Omega.{arith}
 use lib.Dec.{eqb}
 use lib.Ieee.{Float, binary64, round, lt, le}
 use Rattle.model.specs.Limits.{most_entries}
-use Rattle.rules.specs.Rule.{if◌then◌else◌}
 use Rattle.bits.specs.Field.{bits}
 use Rattle.floats.specs.Laws.Order.{lt_le}
 use Rattle.model.specs.declared.TimingPoint.{TimingPoint}

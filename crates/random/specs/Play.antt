@@ -1,8 +1,8 @@
 -- What a rule comes to from a state of the generator with a number of draws left: each draw takes a step.
 -- `Laws.Play.play_run` shows that this equals the rule run on the list of the values of the steps. Assumes nothing.
 use Prim.Native.Nat.{ℕ, zero, suc, max}
-use Rattle.std.specs.Prelude.{Bool}
-use Rattle.rules.specs.Rule.{if◌then◌else◌, Rule, give, refuse, draw, draw_until}
+use Rattle.std.specs.Prelude.{Bool, if◌then◌else◌}
+use Rattle.rules.specs.Rule.{Rule, give, refuse, draw, draw_until}
 use Rattle.rules.specs.Refusal.{Refusal, number, spent_number, ObjectRule}
 use Rattle.random.specs.Generator.{next, low}
 use Rattle.random.specs.declared.Random.{Random}

@@ -1,6 +1,6 @@
 -- How the values that a rule takes divide: those of each search, and those taken outside every search. Assumes nothing.
-use Rattle.std.specs.Prelude.{ℕ, zero, suc, ◌+◌, max, Bool, List, [], ◌∷◌}
-use Rattle.rules.specs.Rule.{if◌then◌else◌, Rule, give, refuse, draw, draw_until}
+use Rattle.std.specs.Prelude.{ℕ, zero, suc, ◌+◌, max, Bool, List, [], ◌∷◌, if◌then◌else◌}
+use Rattle.rules.specs.Rule.{Rule, give, refuse, draw, draw_until}
 
 -- how many values each search took, in order, also one that was cut short; and how many were taken outside every search
 pub record Ledger : Type 0 where

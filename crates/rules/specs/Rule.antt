@@ -1,17 +1,12 @@
 -- The language of the conversion's rules. A rule is given a list of values and nothing else of the generator: each draw takes the
 -- next one. Assumes nothing.
-use Rattle.std.specs.Prelude.{ℕ, zero, suc, Bool, true, false, List, [], ◌∷◌}
-
-infix 5 if◌then◌else◌
-abbrev pub if◌then◌else◌ : {A : Type 0} → Bool → A → A → A
-if true then x else y = x
-if false then x else y = y
+use Rattle.std.specs.Prelude.{if◌then◌else◌, ℕ, zero, suc, Bool, true, false, List, [], ◌∷◌}
 
 -- A rule that ends in an A, or is refused with an R. Its draws stand at places P, which tell where the values ran out.
 --   give a: it ends, with a.
 --   refuse r: it is refused, with r.
 --   draw p k: it takes the next value v, and goes on as k v; where there is none, it is spent at p.
---   drawUntil p limit r test k: a search. It takes values up to and with the first, v, that passes the test, and goes on as k v n, where n is how many
+--   draw_until p limit r test k: a search. It takes values up to and with the first, v, that passes the test, and goes on as k v n, where n is how many
 --     it took; where it has taken `limit` of them and needs one more, it is refused with r; where they run out before that, it is spent at p.
 pub data Rule (P R A : Type 0) : Type 0 where
   give : A → Rule P R A

@@ -1,8 +1,7 @@
 // What a song's settings give: the seed, the column count and the conversion difficulty.
 #![tactic(auto)]
 
-ghost use Rattle.std.specs.Prelude.{◌≡◌, nat_lt};
-ghost use Rattle.rules.specs.Rule.{if◌then◌else◌};
+ghost use Rattle.std.specs.Prelude.{◌≡◌, nat_lt, if◌then◌else◌};
 ghost use Rattle.mania.specs.Convert as Convert;
 ghost use Rattle.mania.specs.Convert.{columns_by_od, columns_by_share, columns_at, columns_by, keys_or};
 ghost use Rattle.mania.specs.PatternGenerator.{or_ten_thousand, drain_time, difficulty_by};

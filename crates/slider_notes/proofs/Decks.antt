@@ -1,11 +1,11 @@
 -- Columns that stay on the deck: stairs, and the second column of a row. Assumes nothing.
+use Rattle.std.specs.Prelude.{if◌then◌else◌}
 use mathlib.Core.Path.{◌≡◌, refl}
 use Prim.Native.Nat.{ℕ, ◌+◌, ◌-◌, ◌≤◌, ◌<◌}
 use native.Mathlib.Omega.{arith}
 use mathlib.Core.Bool.{Bool, true, false, ◌&&◌}
 use lib.Dec.{eqb, leb, ltb}
 use borrow.Author.Tests.{eqb-true, leb-false, ltb-true, ltb-false, leb-true}
-use Rattle.rules.specs.Rule.{if◌then◌else◌}
 use Rattle.mania.specs.PatternGenerator.{random_start}
 use Rattle.mania.specs.PathObject.{legacy, other_column}
 use Rattle.slider_notes.specs.Words.{rises}

@@ -1,4 +1,5 @@
 -- One turn of each loop, in its rule: what the turn gave is handed on, or refused. Assumes nothing.
+use Rattle.std.specs.Prelude.{if◌then◌else◌}
 use mathlib.Core.Path.{◌≡◌, refl, sym, ap, ◌∙◌}
 use Prim.Native.Nat.{ℕ, suc, ◌+◌, ◌-◌, ◌*◌, ◌%◌, ◌^◌, ◌≤◌, ◌<◌}
 use native.Mathlib.Omega.{arith}
@@ -7,7 +8,7 @@ use mathlib.Core.List.{List}
 use lib.Bits.{bit_or}
 use lib.Dec.{eqb, ltb}
 use lib.ListN.{length}
-use Rattle.rules.specs.Rule.{give, ◌>>=◌, if◌then◌else◌}
+use Rattle.rules.specs.Rule.{give, ◌>>=◌}
 use Rattle.rules.specs.Refusal.{ObjectRule}
 use Rattle.random.specs.Play.{Answer, found, refused, play, on}
 use Rattle.random.specs.declared.Draws.{Draws}

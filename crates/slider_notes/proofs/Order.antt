@@ -1,4 +1,5 @@
 -- One word more of a buffer, in the lists of the definition. Assumes nothing.
+use Rattle.std.specs.Prelude.{if◌then◌else◌}
 use mathlib.Core.Path.{◌≡◌, refl, sym, ap, ◌∙◌}
 use Prim.Native.Nat.{ℕ, suc, ◌+◌, ◌-◌, ◌*◌, ◌%◌, ◌^◌, ◌≤◌, ◌<◌}
 use native.Mathlib.Nat.{mod-lt}
@@ -12,7 +13,6 @@ use borrow.Author.Tests.{eq-eqb, ne_eqb}
 use lib.Pow.{pow_pos}
 use lib.ListN.{length, set, take, drop, get_or, length-set, length-map}
 use lib.Seq.{drop-cons, length-take-le}
-use Rattle.rules.specs.Rule.{if◌then◌else◌}
 use Rattle.mania.specs.declared.SliderNote.{SliderNote}
 use Rattle.mania.specs.Pattern.{Pattern, put, empty}
 use Rattle.mania.specs.PathObject.{others, ending}

@@ -1,6 +1,5 @@
 -- The notes of a slider in walk order, in a buffer. Assumes nothing.
-use Rattle.std.specs.Prelude.{◌≡◌, ℕ, suc, ◌+◌, ◌≤◌, List, [], ◌∷◌, map, ◌++◌, eqb, length, take}
-use Rattle.rules.specs.Rule.{if◌then◌else◌}
+use Rattle.std.specs.Prelude.{◌≡◌, ℕ, suc, ◌+◌, ◌≤◌, List, [], ◌∷◌, map, ◌++◌, eqb, length, take, if◌then◌else◌}
 use Rattle.mania.specs.declared.SliderNote.{SliderNote}
 use Rattle.mania.specs.Pattern.{Pattern, empty}
 use Rattle.mania.specs.PathObject.{others, ending}

@@ -1,6 +1,5 @@
 -- The notes of a slider's pattern as words of a buffer. Assumes nothing.
-use Rattle.std.specs.Prelude.{◌≡◌, ℕ, ◌+◌, ◌-◌, ◌/◌, ◌%◌, ◌^◌, ◌≤◌, Bool, leb, ltb, List}
-use Rattle.rules.specs.Rule.{if◌then◌else◌}
+use Rattle.std.specs.Prelude.{◌≡◌, ℕ, ◌+◌, ◌-◌, ◌/◌, ◌%◌, ◌^◌, ◌≤◌, Bool, leb, ltb, List, if◌then◌else◌}
 use Rattle.mania.specs.PatternGenerator.{random_start}
 use Rattle.mania.specs.declared.Note.{Note}
 use Rattle.mania.specs.declared.SliderNote.{SliderNote}

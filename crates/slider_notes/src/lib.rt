@@ -1,8 +1,7 @@
 // The notes of a slider, one word a note in a lent buffer, and the loops that write them. Each loop is a rule of mania/specs/PathObject.antt.
 #![tactic(auto)]
 
-ghost use Rattle.std.specs.Prelude.{◌≡◌, false, ◌&&◌, eqb, ◌+◌, ◌-◌, ◌*◌, ◌^◌, ◌≤◌, ◌<◌, map, length, take};
-ghost use Rattle.rules.specs.Rule.{if◌then◌else◌};
+ghost use Rattle.std.specs.Prelude.{◌≡◌, false, ◌&&◌, eqb, ◌+◌, ◌-◌, ◌*◌, ◌^◌, ◌≤◌, ◌<◌, map, length, take, if◌then◌else◌};
 ghost use Rattle.random.specs.Play.{on};
 ghost use Rattle.mania.specs.PathObject as Path;
 ghost use Rattle.mania.specs.declared.Next.TheVariants.{Draw};

@@ -1,4 +1,5 @@
 -- Bounds on what the rules give, and on times and rooms. Assumes nothing.
+use Rattle.std.specs.Prelude.{if◌then◌else◌}
 use mathlib.Core.Path.{◌≡◌, refl, sym, ◌∙◌}
 use Prim.Native.Nat.{ℕ, ◌+◌, ◌*◌, ◌^◌, ◌≤◌, ◌<◌, zero-le}
 use native.Mathlib.Nat.{le_refl, le_trans, mul-le-mul_right, mul_comm}
@@ -9,7 +10,7 @@ use lib.Dec.{leb, ltb}
 use borrow.Author.Tests.{leb-true}
 use lib.Count.{ones}
 use lib.Ieee.{Float, lt}
-use Rattle.rules.specs.Rule.{give, ◌>>=◌, if◌then◌else◌}
+use Rattle.rules.specs.Rule.{give, ◌>>=◌}
 use Rattle.random.specs.Generator.{unit}
 use Rattle.random.specs.Play.{Answer, found, refused, on}
 use Rattle.random.specs.declared.Draws.{Draws}

@@ -1,11 +1,12 @@
 -- The generators' rules, one call at a time. Assumes nothing.
+use Rattle.std.specs.Prelude.{if◌then◌else◌}
 use mathlib.Core.Path.{◌≡◌, ◌∙◌}
 use Prim.Native.Nat.{ℕ, ◌+◌, ◌-◌, ◌*◌, ◌<◌, min}
 use mathlib.Core.Bool.{Bool, true, false, not, ◌&&◌}
 use lib.Count.{ones}
 use lib.Dec.{ltb}
 use lib.Ieee.{Float, lt}
-use Rattle.rules.specs.Rule.{if◌then◌else◌, ◌>>=◌}
+use Rattle.rules.specs.Rule.{◌>>=◌}
 use Rattle.rules.specs.Refusal.{ObjectRule}
 use Rattle.random.specs.Generator.{between, unit}
 use Rattle.random.specs.Play.{found, refused, play, on, value}

@@ -2,11 +2,10 @@
 // lent buffer.
 #![tactic(auto)]
 
-ghost use Rattle.std.specs.Prelude.{◌≡◌, ◌&&◌, ltb, ◌+◌, ◌-◌, ◌*◌, ◌≤◌, ◌<◌, min, length};
+ghost use Rattle.std.specs.Prelude.{◌≡◌, ◌&&◌, ltb, ◌+◌, ◌-◌, ◌*◌, ◌≤◌, ◌<◌, min, length, if◌then◌else◌};
 ghost use Rattle.model.specs.Limits.{most_notes, most_long_spans};
 ghost use Rattle.mania.specs.PatternType.{force_not_stack, contains};
 ghost use Rattle.std.specs.Int.Count.{ones};
-ghost use Rattle.rules.specs.Rule.{if◌then◌else◌};
 ghost use Rattle.random.specs.Play.{on};
 ghost use Rattle.mania.specs.Steps.{double};
 ghost use Rattle.mania.specs.PatternGenerator.{random_start};

@@ -1,9 +1,8 @@
 // What a slider's pattern is made from: its times, and the chances of its notes. Each function is a definition of mania/specs/PathObject.antt.
 #![tactic(auto)]
 
-ghost use Rattle.std.specs.Prelude.{◌≡◌, ◌+◌, ◌-◌, ◌/◌, ◌<◌, ◌≤◌};
+ghost use Rattle.std.specs.Prelude.{◌≡◌, ◌+◌, ◌-◌, ◌/◌, ◌<◌, ◌≤◌, if◌then◌else◌};
 ghost use Rattle.std.proofs.Math.Bool as Bool;
-ghost use Rattle.rules.specs.Rule.{if◌then◌else◌};
 ghost use Rattle.mania.specs.PatternType.{low_probability};
 ghost use Rattle.mania.specs.PathObject as Path;
 ghost use Rattle.slider_times.specs.Chances.{chances, caps_of};

@@ -1,6 +1,6 @@
+use Rattle.std.specs.Prelude.{if◌then◌else◌}
 use lib.ListN.{length}
 use Prim.Native.Nat.{◌-◌}
-use Rattle.rules.specs.Rule.{if◌then◌else◌}
 use Rattle.random.specs.Play.{on}
 use Rattle.mania.specs.HitObject.{reversed, stacked}
 use Rattle.circle_notes.proofs.Loops.{goal, Each}

@@ -1,8 +1,7 @@
 -- The columns and the previous values that the single-object entry's checks leave. Assumes nothing.
-use Rattle.std.specs.Prelude.{◌≡◌, Bool, true, false, not, ◌&&◌, eqb, leb, ltb}
+use Rattle.std.specs.Prelude.{◌≡◌, Bool, true, false, not, ◌&&◌, eqb, leb, ltb, if◌then◌else◌}
 use Rattle.std.proofs.Common.{arith, eqb-true, ltb-true, leb-true}
 use Prim.Native.Nat.{ℕ, ◌^◌, ◌≤◌, ◌<◌}
-use Rattle.rules.specs.Rule.{if◌then◌else◌}
 use Rattle.mania.specs.declared.PrevValues.{PrevValues}
 use Rattle.mania.specs.Pattern.{free}
 use Rattle.mania.specs.Laws.Tests.{and_l, four}

@@ -1,5 +1,5 @@
 -- A slider's times, of facts in document 01's ranges: the end is not before the rounded start, and a larger distance has no earlier end. Assumes nothing.
-use Rattle.std.specs.Prelude.{◌≡◌, refl, ℕ, zero, suc, ◌+◌, ◌*◌, ◌^◌, ◌≤◌, ◌<◌, Bool, true, false, cond, ltb, pos, Float}
+use Rattle.std.specs.Prelude.{◌≡◌, refl, ℕ, zero, suc, ◌+◌, ◌*◌, ◌^◌, ◌≤◌, ◌<◌, Bool, true, false, cond, ltb, pos, Float, if◌then◌else◌}
 use Rattle.std.proofs.Common.{sym, ◌∙◌, le_trans, le_of_eq, mul-one, mul_right_comm, le_of_mul-le-mul_right, mul-le-mul_right, arith, lit<, lit≤}
 use Rattle.std.proofs.Math.Path.{ap}
 use Rattle.std.specs.Float.{nan, inf, fin, Format, binary32}
@@ -9,7 +9,6 @@ use Rattle.std.specs.Float.Ieee.Exact.{HasValue}
 use Rattle.std.specs.Float.Ieee.Fits.{round_is, of_int-fits}
 use Rattle.std.specs.Float.Ieee.Positive.{num, den, den_pos, value→cross}
 use Rattle.model.specs.Limits.{most_spans, longest_beat, longest_distance}
-use Rattle.rules.specs.Rule.{if◌then◌else◌}
 use Rattle.floats.specs.Narrow.{narrowed}
 use Rattle.floats.specs.Laws.Values.{Sized, UpTo, sized, mul_at_most, div_at_most, div_value, round_at_most, sum_at_most, add_ge}
 use Rattle.floats.specs.Laws.Spans.{AtLeast}

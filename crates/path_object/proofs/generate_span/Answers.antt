@@ -1,11 +1,11 @@
 -- `path_object::generate_span` meets its contract. Assumes nothing.
+use Rattle.std.specs.Prelude.{if◌then◌else◌}
 use Prim.Native.Nat.{◌≤◌}
 use native.Mathlib.Omega.{arith}
 use Rattle.slider_patterns.proofs.Bounds.{places}
 use borrow.Author.Tests.{lt-leb, le-leb}
 use mathlib.Core.Bool.{Bool, true, false}
 use lib.Dec.{leb}
-use Rattle.rules.specs.Rule.{if◌then◌else◌}
 use Rattle.mania.specs.PathObject.{generate_span}
 use Rattle.path_object.proofs.generate_span.Goals as goal
 

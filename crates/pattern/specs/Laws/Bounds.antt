@@ -1,9 +1,9 @@
 -- Where a drawn column and a drawn count of notes lie. Assumes nothing.
-use Rattle.std.specs.Prelude.{◌≡◌, ℕ, ◌≤◌, ◌<◌, Bool, true, false, Float}
+use Rattle.std.specs.Prelude.{◌≡◌, ℕ, ◌≤◌, ◌<◌, Bool, true, false, Float, if◌then◌else◌}
 use Rattle.std.proofs.Common.{arith}
 use Rattle.std.specs.Float.{binary64}
 use Rattle.std.specs.Float.Ieee.{sub, le}
-use Rattle.rules.specs.Rule.{◌>>=◌, if◌then◌else◌}
+use Rattle.rules.specs.Rule.{◌>>=◌}
 use Rattle.random.specs.Play.{found, on}
 use Rattle.random.specs.declared.Draws.{Draws}
 use Rattle.random.specs.Laws.Range.{between_lt}

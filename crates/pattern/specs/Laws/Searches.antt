@@ -1,5 +1,5 @@
 -- The steps of a search, as the code takes them, and where its columns lie. Assumes nothing.
-use Rattle.std.specs.Prelude.{◌≡◌, Bool, true, false, eqb, Float}
+use Rattle.std.specs.Prelude.{◌≡◌, Bool, true, false, eqb, Float, if◌then◌else◌}
 use Rattle.std.proofs.Math.Path.{refl, ap}
 use Rattle.std.proofs.Common.{◌∙◌, lt_of_lt_of_le, le_refl, eqb-true}
 use Prim.Native.Nat.{ℕ, zero, suc, ◌+◌, ◌-◌, ◌≤◌, ◌<◌}
@@ -7,7 +7,7 @@ use Rattle.std.proofs.Math.Numerals.{add-one}
 use native.Mathlib.Omega.{arith}
 use Rattle.std.proofs.lemmas.Bool.{eqb-false}
 use Rattle.rules.specs.Numbers as Numbers
-use Rattle.rules.specs.Rule.{give, refuse, if◌then◌else◌}
+use Rattle.rules.specs.Rule.{give, refuse}
 use Rattle.rules.specs.Refusal.{ObjectRule, no_column, long_search}
 use Rattle.random.specs.Generator.{between}
 use Rattle.random.specs.Play.{Answer, found, refused, searched, play, on, on_until, value}

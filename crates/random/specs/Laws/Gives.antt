@@ -1,8 +1,8 @@
 -- What holds of all that a rule can give, its draws being below 2 ^ 31, holds of what it gave. Assumes nothing.
-use Rattle.std.specs.Prelude.{◌≡◌, refl, Bool, true, false}
+use Rattle.std.specs.Prelude.{◌≡◌, refl, Bool, true, false, if◌then◌else◌}
 use Rattle.std.proofs.Common.{subst, mod-lt, pow_pos}
 use Prim.Native.Nat.{ℕ, zero, suc, max, ◌^◌, ◌<◌}
-use Rattle.rules.specs.Rule.{if◌then◌else◌, Rule, give, refuse, draw, draw_until, ◌>>=◌}
+use Rattle.rules.specs.Rule.{Rule, give, refuse, draw, draw_until, ◌>>=◌}
 use Rattle.random.specs.Generator.{next, low}
 use Rattle.random.specs.Play.{Answer, found, refused, play_until, play, play_on}
 use Rattle.random.specs.declared.Random.{Random}

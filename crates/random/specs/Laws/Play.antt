@@ -1,10 +1,10 @@
 -- A rule played from a state: one draw at a time, two rules in a row, under a label, and on the list of values instead. Assumes nothing.
-use Rattle.std.specs.Prelude.{◌≡◌, Bool, true, false}
+use Rattle.std.specs.Prelude.{◌≡◌, Bool, true, false, if◌then◌else◌}
 use Rattle.std.proofs.Math.Path.{refl, ap, ap₂}
 use Rattle.std.proofs.Common.{sym, ◌∙◌, arith}
 use Prim.Native.Nat.{ℕ, zero, suc, ◌-◌, max}
 use Rattle.std.proofs.Math.Nat.{sub-zero, suc-sub-suc, max-zero}
-use Rattle.rules.specs.Rule.{if◌then◌else◌, Rule, give, refuse, draw, draw_until, ◌>>=◌, label, Outcome, ended, spent, after, drawing_until, run}
+use Rattle.rules.specs.Rule.{Rule, give, refuse, draw, draw_until, ◌>>=◌, label, Outcome, ended, spent, after, drawing_until, run}
 use Rattle.rules.specs.Rule as Rule
 use Rattle.rules.specs.Ledger.{Ledger, after_search, ledger_until, ledger, largest, longest}
 use Rattle.random.specs.Generator.{next, low, values, steps}

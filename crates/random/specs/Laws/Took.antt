@@ -1,7 +1,6 @@
 -- What follows, in a rule and in numbers, from a draw that gave a value, and from one that found none left. Assumes nothing.
-use Rattle.std.specs.Prelude.{◌≡◌, refl, ℕ, zero, suc, ◌-◌, ◌^◌, ◌<◌, Bool}
+use Rattle.std.specs.Prelude.{◌≡◌, refl, ℕ, zero, suc, ◌-◌, ◌^◌, ◌<◌, Bool, if◌then◌else◌}
 use Rattle.std.proofs.Common.{◌∙◌, mod-lt, arith, pow_pos}
-use Rattle.rules.specs.Rule.{if◌then◌else◌}
 use Rattle.rules.specs.Refusal.{Refusal, ObjectRule, number, spent_number}
 use Rattle.random.specs.Generator.{next, low}
 use Rattle.random.specs.Play.{found, refused, tallied, searched, play, on, on_until, value}

@@ -1,5 +1,5 @@
 -- What a rule comes to on a list, and on another list that begins alike. Assumes nothing.
-use Rattle.std.specs.Prelude.{◌≡◌, Bool, true, false, leb, length, take}
+use Rattle.std.specs.Prelude.{◌≡◌, Bool, true, false, leb, length, take, if◌then◌else◌}
 use Rattle.std.proofs.Math.Path.{refl, ap}
 use Rattle.std.proofs.Common.{sym, ◌∙◌, subst, le_refl, le_of_lt, le-leb}
 use Prim.Native.Nat.{ℕ, zero, suc, min, ◌≤◌, ◌<◌}
@@ -8,7 +8,7 @@ use native.Mathlib.Omega.{arith}
 use mathlib.Core.List.{List, [], ◌∷◌}
 use Rattle.std.proofs.lemmas.Bool.{lt-leb}
 use Rattle.std.proofs.Math.Dec.{leb-zero, leb-suc-suc, leb-suc-zero}
-use Rattle.rules.specs.Rule.{if◌then◌else◌, Rule, give, refuse, draw, draw_until, Outcome, ended, refused, spent, after, drawing_until, run, taken, Done}
+use Rattle.rules.specs.Rule.{Rule, give, refuse, draw, draw_until, Outcome, ended, refused, spent, after, drawing_until, run, taken, Done}
 
 -- ---- to give a rule less is to cut its outcome: where it took more than is left, that is spent
 

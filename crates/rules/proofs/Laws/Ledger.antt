@@ -1,11 +1,11 @@
 -- The sum over searches, and the values taken outside every search, are all that a rule takes; and the ledger goes by those values alone. Assumes nothing.
-use Rattle.std.specs.Prelude.{◌≡◌, Bool, true, false, take}
+use Rattle.std.specs.Prelude.{◌≡◌, Bool, true, false, take, if◌then◌else◌}
 use Rattle.std.proofs.Math.Path.{refl, ap}
 use Rattle.std.proofs.Common.{sym, ◌∙◌, subst, le_refl}
 use Prim.Native.Nat.{ℕ, zero, suc, ◌+◌, ◌≤◌}
 use native.Mathlib.Omega.{arith}
 use mathlib.Core.List.{List, [], ◌∷◌}
-use Rattle.rules.specs.Rule.{if◌then◌else◌, Rule, give, refuse, draw, draw_until, Outcome, ended, refused, spent, after, drawing_until, run, taken, Done}
+use Rattle.rules.specs.Rule.{Rule, give, refuse, draw, draw_until, Outcome, ended, refused, spent, after, drawing_until, run, taken, Done}
 use Rattle.rules.specs.Ledger.{Ledger, after_search, after_value, ledger_until, ledger, sum}
 use Rattle.rules.proofs.Laws.Cut.{same_start}
 

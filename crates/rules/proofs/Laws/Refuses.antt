@@ -1,9 +1,9 @@
 -- What holds of every refusal of a rule holds of the one that it ends in. Assumes nothing.
-use Rattle.std.specs.Prelude.{◌≡◌, Bool, true, false}
+use Rattle.std.specs.Prelude.{◌≡◌, Bool, true, false, if◌then◌else◌}
 use Rattle.std.proofs.Common.{subst}
 use Prim.Native.Nat.{ℕ, zero, suc}
 use mathlib.Core.List.{List, [], ◌∷◌}
-use Rattle.rules.specs.Rule.{if◌then◌else◌, Rule, give, refuse, draw, draw_until, ◌>>=◌, label, Outcome, ended, refused, spent, after, drawing_until, run}
+use Rattle.rules.specs.Rule.{Rule, give, refuse, draw, draw_until, ◌>>=◌, label, Outcome, ended, refused, spent, after, drawing_until, run}
 
 -- Q of each refusal, that of a search beyond its limit included
 abbrev pub Refuses : {P R A : Type 0} → (R → Type 0) → Rule P R A → Type 0
