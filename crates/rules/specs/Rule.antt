@@ -1,6 +1,6 @@
 -- The language of the conversion's rules. A rule is given a list of values and nothing else of the generator: each draw takes the
 -- next one. Assumes nothing.
-use Rattle.std.specs.Prelude.{if◌then◌else◌, ℕ, zero, suc, Bool, true, false, List, [], ◌∷◌}
+use Rattle.std.specs.Prelude.{if◌then◌else◌, ℕ, zero, suc, Bool, List, [], ◌∷◌}
 
 -- A rule that ends in an A, or is refused with an R. Its draws stand at places P, which tell where the values ran out.
 --   give a: it ends, with a.
