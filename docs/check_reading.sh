@@ -1,7 +1,7 @@
 #!/usr/bin/env bash
 # Sees that every file that docs/READING.md names is there, and that each name after a file stands in it; and that docs/REFUSALS.md has a row
-# for each refusal of include/sumopine.h, in that order, and no other; and that the refusals of rules/specs/Numbers.antt and rules/src/numbers.rt have
-# the names and numbers of include/sumopine.h (`field_not_whole`, `FIELD_NOT_WHOLE` and `SUMOPINE_FIELD_NOT_WHOLE` are one name); and that the sizes
+# for each refusal of include/sumopine.h, in that order, and no other; and that the refusals of rules/specs/Numbers.antt and rules/src/lib.rt have
+# the names and numbers of include/sumopine.h (`field_not_whole`, `FieldNotWhole` and `SUMOPINE_FIELD_NOT_WHOLE` are one name); and that the sizes
 # of include/sumopine.h, from which it makes its largest chart, are the code's and the definitions'.
 set -euo pipefail
 cd "$(dirname "$0")/.."
@@ -32,13 +32,13 @@ done < <(grep '^|' docs/READING.md | sed 's/|/\n|\n/g' | awk '/^\|$/ { print; ne
 # each refusal as `NAME = number`
 header=$(sed -n 's/^ *SUMOPINE_\([A-Z_]* = [^,]*\),\{0,1\}$/\1/p' include/sumopine.h)
 specs=$(sed -n 's/^\([a-z_]* = .*\)$/\1/p' crates/rules/specs/Numbers.antt | tr '[:lower:]' '[:upper:]')
-code=$(sed -n 's/^pub const \([A-Z_]*\): u8\( = .*\);$/\1\2/p' crates/rules/src/numbers.rt)
+code=$(sed -n 's/^    \([A-Za-z]* = [0-9]*\),$/\1/p' crates/rules/src/lib.rt | sed 's/\([a-z]\)\([A-Z]\)/\1_\2/g' | tr '[:lower:]' '[:upper:]')
 if ! diff <(echo "$header") <(echo "$specs"); then
     echo "sumopine.h (<) and rules/specs/Numbers.antt (>) have other refusals"
     bad=1
 fi
 if ! diff <(echo "$header") <(echo "$code"); then
-    echo "sumopine.h (<) and rules/src/numbers.rt (>) have other refusals"
+    echo "sumopine.h (<) and rules/src/lib.rt (>) have other refusals"
     bad=1
 fi
 numbers=$(sed 's/.* = //' <<< "$header")

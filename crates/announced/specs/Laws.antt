@@ -1,6 +1,6 @@
 -- Why the answers are exact. A rounded setting rises with it, and each whole number between the rounded ends of a range is a value of the range, or has the
 -- same columns as an end; a slider's end rises with its distance. Assumes nothing.
-use Rattle.std.specs.Prelude.{◌≡◌, true, false, not, ◌&&◌, ◌||◌, List, [], ◌∷◌, ◌⊎◌, T, eqb, leb, ltb, pos, Float, length, if◌then◌else◌}
+use Rattle.std.specs.Prelude.{◌≡◌, true, false, not, ◌&&◌, ◌||◌, List, [], ◌∷◌, ◌⊎◌, T, eqb, leb, ltb, pos, Float, length, if◌then◌else◌, Some, None}
 use Rattle.std.proofs.Math.Path.{refl, sym, ap}
 use Rattle.std.proofs.Common.{◌∙◌, subst, lt_of_lt_of_le, le_of_mul-le-mul_right, mul-le-mul_right, eq-or-lt_of_le, le_of_suc-le-suc, le_refl, mod-lt, leb-true, ltb-true, ltb-false, eqb-true, lit<, lit≤}
 use Prim.Native.Nat.{ℕ, zero, suc, ◌+◌, ◌-◌, ◌*◌, ◌/◌, ◌%◌, ◌^◌, ◌≤◌, ◌<◌, max}
@@ -28,7 +28,6 @@ use Rattle.floats.specs.Laws.Spans.{AtLeast, up_to, at_least}
 use Rattle.floats.specs.Laws.Wholes.{count_le}
 use Rattle.floats.specs.Laws.Integers.{int_value, count_int}
 use Rattle.floats.specs.Laws.Monotone.{Below, count_mono, under_whole, over_whole}
-use Rattle.model.specs.declared.Distance.TheVariants.{Missing, Given}
 use Rattle.model.specs.declared.Kind.{Kind}
 use Rattle.model.specs.declared.Object.{Object}
 use Rattle.model.specs.declared.Settings.{Settings}
@@ -43,8 +42,7 @@ use Rattle.mania.proofs.Masks.{bit, or_bit, own_bit}
 use Rattle.mania.proofs.Frees.{other_bit}
 use Rattle.mania.specs.Convert.{columns_at, columns_by, keys_or, target_columns, columns_of}
 use Rattle.settings.specs.Laws.{columns_between}
-use Rattle.announced.specs.declared.SettingRange.{SettingRange}
-use Rattle.announced.specs.declared.DistanceRange.{DistanceRange}
+use Rattle.announced.specs.declared.Bounds.{Bounds}
 use Rattle.announced.specs.declared.Slider.{Slider}
 use Rattle.announced.specs.Announced.{setting_fits, columns_refusal, SettingIn, Yields, facts_of, object_of, end_at, nothing, rest_refusal, distance_fits, DistanceIn, EndsFrom}
 use Rattle.announced.specs.Gathered.{gathered}
@@ -152,12 +150,12 @@ hold e = subst T (sym e) tt
 
 -- ---- a range of od or cs
 
-record Fit (r : SettingRange) : Type 0 where
+record Fit (r : Bounds Float) : Type 0 where
   low : UpTo 10 r.low
   high : UpTo 10 r.high
   order : T (le r.low r.high)
 
-fit : (r : SettingRange) → setting_fits r ≡ true → Fit r
+fit : (r : Bounds Float) → setting_fits r ≡ true → Fit r
 unfolding setting_fits
 fit r h =
     let t = three (inside setting_range r.low) (inside setting_range r.high) (le r.low r.high) h in
@@ -169,7 +167,7 @@ fit r h =
       order = hold t.2;
     }
 
-module _ (r : SettingRange) (h : setting_fits r ≡ true) where
+module _ (r : Bounds Float) (h : setting_fits r ≡ true) where
   lows : UpTo 10 r.low
   lows = (fit r h).low
 
@@ -234,12 +232,12 @@ passed true n r h e = (refl, e)
 passed false n r h e = absurd (omega arith)
 
 -- what the checks say where none fails
-pub record Checked (od cs : SettingRange) (long objects : ℕ) : Type 0 where
+pub record Checked (od cs : Bounds Float) (long objects : ℕ) : Type 0 where
   pub od_fits : setting_fits od ≡ true
   pub cs_fits : setting_fits cs ≡ true
   pub enough : long ≤ objects
 
-pub checked : (od cs : SettingRange) (long objects : ℕ) → columns_refusal od cs long objects ≡ 0 → Checked od cs long objects
+pub checked : (od cs : Bounds Float) (long objects : ℕ) → columns_refusal od cs long objects ≡ 0 → Checked od cs long objects
 unfolding columns_refusal
 checked od cs long objects e =
     let p = passed (setting_fits od && setting_fits cs) 20 _ (lit< tt) e in
@@ -272,7 +270,7 @@ some_objects (suc k) (suc n) h = let l = some_objects k n (omega arith) in (at_z
 
 -- ---- the column counts of two ranges are those gathered
 
-module _ (od cs : SettingRange) (long objects : ℕ) (e : columns_refusal od cs long objects ≡ 0) (F : T (fits binary32 od.low)) (G : T (fits binary32 od.high))
+module _ (od cs : Bounds Float) (long objects : ℕ) (e : columns_refusal od cs long objects ≡ 0) (F : T (fits binary32 od.low)) (G : T (fits binary32 od.high))
     (F' : T (fits binary32 cs.low)) (G' : T (fits binary32 cs.high)) where
   h : setting_fits od ≡ true
   h = (checked od cs long objects e).od_fits
@@ -351,9 +349,9 @@ module _ (s : Slider) where
   settings_fit_law = and_true (inside multiplier_range s.multiplier)
 
   abbrev object_tests : Bool
-  object_tests = position_fits s.position && inside span_range s.start && ltb s.sound 16 && kind_fits (Kind.Slider s.repeats Missing s.node)
+  object_tests = position_fits s.position && inside span_range s.start && ltb s.sound 16 && kind_fits (Kind.Slider s.repeats None s.node)
 
-  object_fits_law : object_fits (facts_of s) nothing (object_of s Missing) ≡ object_tests
+  object_fits_law : object_fits (facts_of s) nothing (object_of s None) ≡ object_tests
   unfolding object_fits facts_of object_of nothing round
   object_fits_law = and_true (object_tests && place && true) ∙ and_true (object_tests && place) ∙ ap (λ (b : Bool). object_tests && b) place_fits ∙ and_true object_tests
     where
@@ -390,14 +388,14 @@ known s e =
     let place = position_fits s.position in
     let start = inside span_range s.start in
     let sound = ltb s.sound 16 in
-    let o = passed (place && start && sound && (leb s.repeats most_repeats && distance_in Missing && node_fits s.node)) Numbers.object _ (lit< tt) p.1 in
+    let o = passed (place && start && sound && (leb s.repeats most_repeats && distance_in None && node_fits s.node)) Numbers.object _ (lit< tt) p.1 in
     let t = two (inside beat_range s.beat) (inside velocity_range s.velocity) p.0 in
-    let k = (two (place && start && sound) (leb s.repeats most_repeats && distance_in Missing && node_fits s.node) o.0).1 in
+    let k = (two (place && start && sound) (leb s.repeats most_repeats && distance_in None && node_fits s.node) o.0).1 in
     record {
       multiplier = at_least 3 multiplier_range.low multiplier_range.high s.multiplier (record { size = (refl, refl); low = lit≤ tt }) (refl, refl) (hold m.0);
       velocity = at_least 10 velocity_range.low velocity_range.high s.velocity (record { size = (refl, refl); low = lit≤ tt }) (refl, refl) (hold t.1);
       beat = up_to longest_beat beat_range.low beat_range.high s.beat (refl, refl) (refl, refl) (hold t.0);
-      spans = few s.repeats (leb-true s.repeats most_repeats (three (leb s.repeats most_repeats) (distance_in Missing) (node_fits s.node) k).0);
+      spans = few s.repeats (leb-true s.repeats most_repeats (three (leb s.repeats most_repeats) (distance_in None) (node_fits s.node) k).0);
     }
   where
     few : (n : ℕ) → n ≤ most_repeats → n + 1 ≤ most_spans
@@ -413,12 +411,12 @@ small_fields s e =
     let start = inside span_range s.start in
     let sound = ltb s.sound 16 in
     let few = leb s.repeats most_repeats in
-    let o = passed (place && start && sound && (few && distance_in Missing && node_fits s.node)) Numbers.object _ (lit< tt) p.1 in
-    let t = two (place && start && sound) (few && distance_in Missing && node_fits s.node) o.0 in
-    let k = three few (distance_in Missing) (node_fits s.node) t.1 in
+    let o = passed (place && start && sound && (few && distance_in None && node_fits s.node)) Numbers.object _ (lit< tt) p.1 in
+    let t = two (place && start && sound) (few && distance_in None && node_fits s.node) o.0 in
+    let k = three few (distance_in None) (node_fits s.node) t.1 in
     (ltb-true s.sound 16 (three place start sound t.0).2, leb-true s.repeats most_repeats k.0, k.2)
 
-module _ (s : Slider) (r : DistanceRange) (e : rest_refusal s ≡ 0) (h : distance_fits r ≡ true) (F : T (fits binary64 r.low)) (G : T (fits binary64 r.high)) where
+module _ (s : Slider) (r : Bounds Float) (e : rest_refusal s ≡ 0) (h : distance_fits r ≡ true) (F : T (fits binary64 r.low)) (G : T (fits binary64 r.high)) where
   tests : (inside distance_range r.low ≡ true) × (inside distance_range r.high ≡ true) × (le r.low r.high ≡ true)
   unfolding distance_fits distance_in
   tests = three (inside distance_range r.low) (inside distance_range r.high) (le r.low r.high) h
@@ -437,7 +435,7 @@ module _ (s : Slider) (r : DistanceRange) (e : rest_refusal s ≡ 0) (h : distan
   unfolding end_at end_time start_time object_of facts_of distance_of
   rises x y v w b =
       let k = known s e in
-      end_mono (facts_of s) (object_of s Missing) (s.repeats + 1) (Given x) (Given y) k.spans v w k.velocity k.beat k.multiplier b
+      end_mono (facts_of s) (object_of s None) (s.repeats + 1) (Some x) (Some y) k.spans v w k.velocity k.beat k.multiplier b
 
   lower_in : DistanceIn r r.low
   lower_in = (F, in_range_law r.low r.high r.low low_upto.size (le_self r.low low_upto.size) (hold tests.2))

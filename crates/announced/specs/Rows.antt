@@ -1,11 +1,10 @@
 -- Worked examples, computed. Assumes nothing.
-use Rattle.std.specs.Prelude.{◌≡◌, refl, Float}
+use Rattle.std.specs.Prelude.{◌≡◌, refl, Float, None}
 use Rattle.floats.specs.Whole.{count}
 use Rattle.floats.specs.declared.Way.TheVariants.{Even}
-use Rattle.model.specs.declared.NodeSound.TheVariants.{Missing}
 use Rattle.mania.specs.Steps.{single, double}
 use Rattle.mania.proofs.Computing.{computing}
-use Rattle.announced.specs.declared.SettingRange.{SettingRange}
+use Rattle.announced.specs.declared.Bounds.{Bounds}
 use Rattle.announced.specs.declared.Slider.{Slider}
 use Rattle.announced.specs.Announced.{columns_refusal, setting_fits, facts_of, object_of, end_at, ends_refusal, nothing, rest_refusal, distance_fits}
 use Rattle.announced.specs.Gathered.{gathered}
@@ -37,13 +36,13 @@ unfolding computing gathered
 all_between = refl
 
 -- 5.55 to 5.45 is no range, and 10.05 is out of bounds; the counts come after
-abbrev fourth : SettingRange
+abbrev fourth : Bounds Float
 fourth = record { low = single 395 100; high = single 405 100 }
 
-abbrev falling : SettingRange
+abbrev falling : Bounds Float
 falling = record { low = single 555 100; high = single 545 100 }
 
-abbrev above_ten : SettingRange
+abbrev above_ten : Bounds Float
 above_ten = record { low = single 995 100; high = single 1005 100 }
 
 refused_falling : columns_refusal falling fourth 5 4 ≡ 20
@@ -75,7 +74,7 @@ slider =
       start = double 10004 10;
       sound = 0;
       repeats = 0;
-      node = Missing;
+      node = None;
     }
 
 -- a length of 100 is from 99.5 to 100.5
@@ -102,7 +101,7 @@ slow start =
       start = start;
       sound = 0;
       repeats = 0;
-      node = Missing;
+      node = None;
     }
 
 at_the_limit : ends_refusal (slow (double 31 1)) (record { low = double 0 1; high = double 55924 1 }) ≡ 0

@@ -1,28 +1,35 @@
 // Songs announced with rounded figures: od, cs and a slider's distance are known only as ranges.
 #![tactic(auto)]
 
-ghost use Rattle.std.specs.Prelude.{◌≡◌, ◌+◌, ◌-◌, ◌<◌, ◌≤◌, ◌^◌, suc};
+ghost use Rattle.std.specs.Prelude.{◌≡◌, ◌+◌, ◌-◌, ◌<◌, ◌≤◌, ◌^◌, ◌&&◌, suc};
+ghost use Rattle.std.specs.Float.Ieee.{le};
+ghost use Rattle.rules.specs.Coded.{refusal_code};
+ghost use Rattle.floats.specs.Range.{in_range};
 ghost use Rattle.mania.specs.PathObject as Path;
 ghost use Rattle.announced.specs.Announced.{setting_fits, distance_fits, columns_refusal, ColumnsAre, facts_of, object_of, end_at, rest_refusal, EndsAre};
 ghost use Rattle.announced.specs.Gathered.{gathered};
 
-use floats::Way;
+use floats::{Float, Way};
 use mania::{Facts, PrevValues, Stair};
-use model::{Distance, Kind, NodeSound, Object, Position, limits};
-use rules::numbers;
+use model::{Kind, Object, Position, limits};
+use rules::Refusal;
 
-// A range of od or cs, ends included.
+// A range that a figure lies in, ends included.
 #[derive(Clone, Copy)]
-pub struct SettingRange {
-    pub low: f32,
-    pub high: f32,
+pub struct Bounds<F> {
+    pub low: F,
+    pub high: F,
 }
 
-// A range of a slider's distance, ends included.
-#[derive(Clone, Copy)]
-pub struct DistanceRange {
-    pub low: f64,
-    pub high: f64,
+impl<F: Float> Bounds<F> {
+    // Both ends lie between two values, and the lower is not above the upper.
+    fn fit(self, least: F, most: F) -> bool
+        ensures { result ≡ (in_range (F.value least) (F.value most) (F.value self.low) && in_range (F.value least) (F.value most) (F.value self.high) && le (F.value self.low) (F.value self.high)) }
+    {
+        let low = floats::in_range(self.low, least, most);
+        let high = floats::in_range(self.high, least, most);
+        low & high & self.low.at_most(self.high)
+    }
 }
 
 // A slider without its distance, and the facts in force at it.
@@ -35,51 +42,32 @@ pub struct Slider {
     pub start: f64,
     pub sound: u8,
     pub repeats: u16,
-    pub node: NodeSound,
-}
-
-// The column counts that are possible, a bit for each, or a refusal's number.
-#[derive(Clone, Copy)]
-pub enum Columns {
-    Among(u16),
-    Refused(u8),
-}
-
-// The earliest and the latest end, or a refusal's number.
-#[derive(Clone, Copy)]
-pub enum Ends {
-    Between(u32, u32),
-    Refused(u8),
+    pub node: Option<u8>,
 }
 
 // ---- the columns
 
 // Both ends are settings that a record can have, and the lower is not above the upper.
-fn setting_fits(range: SettingRange) -> bool
+fn setting_fits(range: Bounds<f32>) -> bool
     ensures { result ≡ setting_fits range }
 {
-    let low = range.low;
-    let high = range.high;
-    let a = floats::in_range_f32(low, limits::LEAST_SETTING, limits::MOST_SETTING);
-    let b = floats::in_range_f32(high, limits::LEAST_SETTING, limits::MOST_SETTING);
-    a & b & (low <= high)
+    range.fit(limits::LEAST_SETTING, limits::MOST_SETTING)
 }
 
-// The number of the first check that fails, 0 where none does.
-fn columns_refusal(od: SettingRange, cs: SettingRange, long: u32, objects: u32) -> u8
-    ensures { result ≡ columns_refusal od cs long objects }
+// The first check that fails.
+#[tactic(auto, unfolding(crate::specs::Announced::columns_refusal))]
+fn columns_refusal(od: Bounds<f32>, cs: Bounds<f32>, long: u32, objects: u32) -> Result<(), Refusal>
+    ensures { refusal_code result ≡ columns_refusal od cs long objects }
 {
-    let a = setting_fits(od);
-    let b = setting_fits(cs);
-    let fit = a & b;
+    let fit = setting_fits(od) & setting_fits(cs);
     let many = (limits::MOST_OBJECTS < objects) | (objects < long);
     if !fit {
-        return numbers::RANGE;
+        return Err(Refusal::Range);
     }
     if many {
-        return numbers::COUNTS;
+        return Err(Refusal::Counts);
     }
-    0
+    Ok(())
 }
 
 // The column counts of every whole od from one to another, with cs rounded at either end of its range: `low`, `high`.
@@ -88,32 +76,31 @@ fn gather(from: u32, to: u32, low: u32, high: u32, long: u32, objects: u32) -> u
     ensures { result ≡ gathered long objects low high from (suc to - from) }
 {
     let mut mask: u16 = 0;
-    let mut od = from;
-    while od <= to {
+    for od in from..=to {
         let a = settings::columns_at(low, od, long, objects);
         let b = settings::columns_at(high, od, long, objects);
         let first = pattern::with_column(mask, a);
         mask = pattern::with_column(first, b);
-        od += 1;
     }
     mask
 }
 
 // The column counts that some f32 values in the ranges yield, without a key choice: `long` of the objects are sliders or spinners.
 // Every whole number between the rounded ends of od's range is an od of it, and cs counts only by whether it is 5 or more.
-pub fn possible_columns(od: SettingRange, cs: SettingRange, long: u32, objects: u32) -> Columns
+pub fn possible_columns(
+    od: Bounds<f32>,
+    cs: Bounds<f32>,
+    long: u32,
+    objects: u32,
+) -> Result<u16, Refusal>
     ensures { ColumnsAre od cs long objects result }
 {
-    let refusal = columns_refusal(od, cs, long, objects);
-    if refusal != 0 {
-        return Columns::Refused(refusal);
-    }
-    let od_low = floats::to_count_f32(od.low, Way::Even);
-    let od_high = floats::to_count_f32(od.high, Way::Even);
-    let cs_low = floats::to_count_f32(cs.low, Way::Even);
-    let cs_high = floats::to_count_f32(cs.high, Way::Even);
-    let mask = gather(od_low, od_high, cs_low, cs_high, long, objects);
-    Columns::Among(mask)
+    columns_refusal(od, cs, long, objects)?;
+    let od_low = floats::to_count(od.low, Way::Even);
+    let od_high = floats::to_count(od.high, Way::Even);
+    let cs_low = floats::to_count(cs.low, Way::Even);
+    let cs_high = floats::to_count(cs.high, Way::Even);
+    Ok(gather(od_low, od_high, cs_low, cs_high, long, objects))
 }
 
 // ---- a slider's end
@@ -132,81 +119,71 @@ fn facts_of(slider: Slider) -> Facts
     }
 }
 
-fn object_of(slider: Slider, distance: Distance) -> Object
+#[tactic(auto, unfolding(crate::specs::Announced::object_of))]
+fn object_of(slider: Slider, distance: Option<f64>) -> Object
     ensures { result ≡ object_of slider distance }
 {
-    let position = slider.position;
-    let node = slider.node;
-    let kind = Kind::Slider {
-        repeats: slider.repeats,
-        distance,
-        node,
-    };
     Object {
-        position,
+        position: slider.position,
         start: slider.start,
         sound: slider.sound,
-        kind,
+        kind: Kind::Slider {
+            repeats: slider.repeats,
+            distance,
+            node: slider.node,
+        },
     }
 }
 
 // The checks of the single-object entry, with one column and nothing before, so that only 4, 5 and 6 can come.
-fn rest_refusal(slider: Slider) -> u8
-    ensures { result ≡ rest_refusal slider }
+fn rest_refusal(slider: Slider) -> Result<(), Refusal>
+    ensures { refusal_code result ≡ rest_refusal slider }
 {
     let facts = facts_of(slider);
-    let object = object_of(slider, Distance::Missing);
-    let position = Position { x: 0.0, y: 0.0 };
-    let stair = Stair::Up;
+    let object = object_of(slider, None);
     let nothing = PrevValues {
         time: 0.0,
-        position,
+        position: Position { x: 0.0, y: 0.0 },
         mask: 0,
         last: 0,
-        stair,
+        stair: Stair::Up,
     };
     entry::entry_refusal(facts, nothing, 1, object)
 }
 
 // Both ends are distances that a record can have, and the lower is not above the upper.
-fn distance_fits(range: DistanceRange) -> bool
+fn distance_fits(range: Bounds<f64>) -> bool
     ensures { result ≡ distance_fits range }
 {
-    let low = range.low;
-    let high = range.high;
-    let a = entry::distance_fits(Distance::Given(low));
-    let b = entry::distance_fits(Distance::Given(high));
-    a & b & (low <= high)
+    range.fit(limits::LEAST_DISTANCE, limits::MOST_DISTANCE)
 }
 
 // The end with a distance.
+#[tactic(auto, unfolding(crate::specs::Announced::end_at))]
 fn end_at(slider: Slider, distance: f64) -> u32
     ensures { result ≡ end_at slider distance }
 {
     let facts = facts_of(slider);
-    let given = Distance::Given(distance);
+    let given = Some(distance);
     let object = object_of(slider, given);
-    let spans = (slider.repeats as u32) + 1;
+    let spans = u32::from(slider.repeats) + 1;
     slider_times::end_time(facts, object, spans, given)
 }
 
 // The earliest and the latest end of a slider with its distance in a range: a larger distance has no earlier end.
-pub fn possible_ends(slider: Slider, range: DistanceRange) -> Ends
+pub fn possible_ends(slider: Slider, range: Bounds<f64>) -> Result<(u32, u32), Refusal>
     ensures { EndsAre slider range result }
 {
-    let refusal = rest_refusal(slider);
-    if refusal != 0 {
-        return Ends::Refused(refusal);
-    }
+    rest_refusal(slider)?;
     if !distance_fits(range) {
-        return Ends::Refused(numbers::RANGE);
+        return Err(Refusal::Range);
     }
     let low = range.low;
     let high = range.high;
     let earliest = end_at(slider, low);
     let latest = end_at(slider, high);
     if limits::LATEST_END < latest {
-        return Ends::Refused(numbers::SLIDER_END);
+        return Err(Refusal::SliderEnd);
     }
-    Ends::Between(earliest, latest)
+    Ok((earliest, latest))
 }

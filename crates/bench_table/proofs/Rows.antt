@@ -1,5 +1,6 @@
 -- The bench table's rows marked M, and the small examples of the refusals that the rules give, computed. `double a b` is the f64 nearest to
 -- a / b. Assumes nothing.
+use Rattle.std.specs.Prelude.{Some, None}
 use mathlib.Core.Path.{◌≡◌, refl, ap, ◌∙◌}
 use Prim.Native.Nat.{ℕ, zero, suc, ◌-◌, ◌^◌}
 use mathlib.Core.Bool.{true, false}
@@ -17,8 +18,6 @@ use Rattle.floats.specs.declared.Way.TheVariants.{Even}
 use Rattle.model.specs.declared.Settings.{Settings}
 use Rattle.model.specs.declared.Kind.{Kind}
 use Rattle.model.specs.declared.Kind.TheVariants.{Circle, Slider, Spinner, Hold}
-use Rattle.model.specs.declared.Distance.TheVariants as D
-use Rattle.model.specs.declared.NodeSound.TheVariants as N
 use Rattle.mania.specs.declared.Stair.{Stair}
 use Rattle.mania.specs.declared.Stair.TheVariants.{Up, Reverse}
 use Rattle.model.specs.declared.Object.{Object}
@@ -117,7 +116,7 @@ song_of key objects =
     }
 
 abbrev slider : ℕ → Float → Object
-slider repeats distance = object_of (double 10004 10) 0 (Slider repeats (D.Given distance) N.Missing)
+slider repeats distance = object_of (double 10004 10) 0 (Slider repeats (Some distance) None)
 
 -- the facts in force at an object, in a song of that object and without points
 abbrev no_points : Object → Facts
@@ -136,7 +135,7 @@ slider_starts : start_time plain ≡ 1000
 unfolding computing
 slider_starts = refl
 
-slider_ends : end_time (no_points plain) plain 1 (D.Given (double 100 1)) ≡ 2000
+slider_ends : end_time (no_points plain) plain 1 (Some (double 100 1)) ≡ 2000
 unfolding computing
 slider_ends = refl
 
@@ -144,11 +143,11 @@ slider_ends = refl
 abbrev spans : Object
 spans = slider 2 (double 100 3)
 
-spans_1000 : end_time (no_points spans) spans 3 (D.Given (double 100 3)) - start_time spans ≡ 1000
+spans_1000 : end_time (no_points spans) spans 3 (Some (double 100 3)) - start_time spans ≡ 1000
 unfolding computing
 spans_1000 = refl
 
-span_333 : span_length (no_points spans) spans 2 (D.Given (double 100 3)) ≡ 333
+span_333 : span_length (no_points spans) spans 2 (Some (double 100 3)) ≡ 333
 unfolding computing
 span_333 = refl
 
@@ -228,7 +227,7 @@ refused_by number = Single.refusing number (seeded 0) (replicate 19 165)
 abbrev slow : Facts
 slow = record { difficulty = double 0 1; multiplier = double 1 1; beat = double 60000 1; velocity = double 1 10; kiai = false; density = double 0 1 }
 
-refusal_8 : one slow (previous 0 0 Up) 4 (object_of (double 0 1) 0 (Slider 0 (D.Given (double 131072 1)) N.Missing)) ≡ refused_by 8
+refusal_8 : one slow (previous 0 0 Up) 4 (object_of (double 0 1) 0 (Slider 0 (Some (double 131072 1)) None)) ≡ refused_by 8
 unfolding computing
 refusal_8 = refl
 

@@ -1,7 +1,7 @@
 // Fields of bits in a byte slice, most significant bit first, with no gaps.
 #![tactic(auto)]
 
-ghost use Rattle.std.specs.Prelude.{◌≡◌, ◌+◌, ◌-◌, ◌*◌, ◌/◌, ◌%◌, ◌^◌, ◌≤◌, ◌<◌, min, length, get_or};
+ghost use Rattle.std.specs.Prelude.{◌≡◌, ◌+◌, ◌-◌, ◌*◌, ◌/◌, ◌%◌, ◌^◌, ◌≤◌, ◌<◌, eqb, length, get_or};
 ghost use Rattle.bits.specs.Field.{bits, short};
 
 // 2 to the k.
@@ -22,12 +22,6 @@ fn joined(v: u64, b: u8, room: usize, k: usize) -> u64
     v * p + high % p
 }
 
-fn least(a: usize, b: usize) -> usize
-    ensures { result ≡ min a b }
-{
-    if a < b { a } else { b }
-}
-
 // Byte i, and 0 past the end.
 fn byte_at(s: &[u8], i: usize) -> u8
     ensures { result ≡ get_or s.now i 0 }
@@ -35,7 +29,7 @@ fn byte_at(s: &[u8], i: usize) -> u8
     if i < s.len() { s[i] } else { 0 }
 }
 
-// A field near the end of the bytes. Each turn takes what the field has of one byte.
+// A field near the end of the bytes. Each turn takes what the field has of one byte: the steps differ, so `done` is no `for`'s index.
 fn read_by_bytes(s: &[u8], at: usize, width: usize) -> u64
     requires { (width ≤ 64) × (at ≤ 4294967296) }
     ensures { result ≡ bits s.now at width }
@@ -46,7 +40,7 @@ fn read_by_bytes(s: &[u8], at: usize, width: usize) -> u64
         let here = at + done;
         let left = width - done;
         let room = 8 - here % 8;
-        let k = least(left, room);
+        let k = left.min(room);
         let b = byte_at(s, here / 8);
         v = joined(v, b, room, k);
         done += k;
@@ -54,7 +48,7 @@ fn read_by_bytes(s: &[u8], at: usize, width: usize) -> u64
     v
 }
 
-// The four bytes from byte i on, as one number.
+// The four bytes from byte i on, as one number. Written out, so that the compiler makes one load of the eight.
 fn four_bytes(s: &[u8], i: usize) -> u64
     requires { i + 4 ≤ length s.now }
     ensures { result ≡ bits s.now (8 * i) 32 }
@@ -115,16 +109,16 @@ pub fn is_short(s: &[u8], end: usize) -> bool
     s.len() < (end + 7) / 8
 }
 
-// A field of one bit.
-pub fn read_flag(s: &[u8], at: usize) -> usize
+// A field of one bit: whether it is set.
+pub fn read_flag(s: &[u8], at: usize) -> bool
     requires { at ≤ 4294967296 }
-    ensures { (result ≡ bits s.now at 1) × (result ≤ 1) }
+    ensures { result ≡ eqb (bits s.now at 1) 1 }
 {
-    let b = byte_at(s, at / 8) as usize;
-    (b >> (7 - at % 8)) % 2
+    let b = byte_at(s, at / 8);
+    (b >> (7 - at % 8)) % 2 == 1
 }
 
-// A field of 32 bits.
+// A field of 32 bits, as a number of its width.
 pub fn read32(s: &[u8], at: usize) -> u32
     requires { at ≤ 4294967296 }
     ensures { result ≡ bits s.now at 32 }

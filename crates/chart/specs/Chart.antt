@@ -1,19 +1,17 @@
 -- The chart: its bytes, and the rule by which it is read.
 -- Assumes nothing.
-use Rattle.std.specs.Prelude.{◌≡◌, Bool, true, false, ◌&&◌, cond, List, [], ◌∷◌, ◌++◌, ℕ, zero, suc, ◌+◌, ◌*◌, ◌/◌, ◌%◌, ◌^◌, ◌≤◌, ◌<◌, leb, ltb, eqb, length, get_or, take, drop}
+use Rattle.std.specs.Prelude.{◌≡◌, Bool, true, false, ◌&&◌, cond, List, [], ◌∷◌, ◌++◌, ℕ, zero, suc, ◌+◌, ◌*◌, ◌/◌, ◌%◌, ◌^◌, ◌≤◌, ◌<◌, leb, ltb, eqb, length, get_or, take, drop, None, Some, unwrap_or, Result, Ok, Err}
+use Rattle.std.specs.Prelude as Std
 use Rattle.std.proofs.Math.Option.{Option, none, some}
 use Rattle.rules.specs.Numbers as Numbers
+use Rattle.rules.specs.Coded.{code}
+use Rattle.rules.specs.declared.Refusal.{Refusal}
 use Rattle.rules.specs.Each.{Each}
 use Rattle.chart.specs.Layout.{header_size, version_number, head_size, column_unit, hold_unit, zero_unit, indices, note_size_in, chart_size_in}
 use Rattle.chart.specs.declared.Version.{Version}
 use Rattle.chart.specs.declared.Version.TheVariants.{One, Two}
-use Rattle.chart.specs.declared.Origin.{Origin}
-use Rattle.chart.specs.declared.Origin.TheVariants.{Untold, Object}
 use Rattle.chart.specs.declared.Note.{Note}
-use Rattle.chart.specs.declared.Answer.{Answer}
-use Rattle.chart.specs.declared.Answer.TheVariants.{Chart, Refused}
-use Rattle.chart.specs.declared.Found.{Found}
-use Rattle.chart.specs.declared.Found.TheVariants.{At, Nothing}
+use Rattle.chart.specs.declared.Header.{Header}
 use Rattle.chart.specs.Tests.{every}
 use Rattle.floats.specs.Ticks.{ticks}
 use Rattle.chart.specs.Time.{time, is_time, latest}
@@ -23,9 +21,8 @@ use Rattle.chart.specs.Order.{rank}
 -- ---- the bytes of a chart
 
 -- the object's index in a note's head; 0 where the note does not tell its object, as in version 1
-abbrev pub index : Origin → ℕ
-index Untold = 0
-index (Object i) = i
+abbrev pub index : Std.Option ℕ → ℕ
+index o = unwrap_or o 0
 
 -- a note's head as a number
 unfoldable pub head : Version → Note → ℕ
@@ -53,9 +50,9 @@ abbrev pub head_of : Version → List ℕ → ℕ
 head_of v s = num (head_size v) s
 
 -- the object that a head tells
-abbrev pub origin_of : Version → ℕ → Origin
-origin_of One h = Untold
-origin_of Two h = Object (h / zero_unit Two % indices)
+abbrev pub origin_of : Version → ℕ → Std.Option ℕ
+origin_of One h = None
+origin_of Two h = Some (h / zero_unit Two % indices)
 
 unfoldable pub note_of : Version → List ℕ → Note
 note_of v s =
@@ -103,11 +100,11 @@ ok_notes columns last [] = true
 ok_notes columns last (n ∷ ns) = ok_note columns last n && ok_notes columns (rank n) ns
 
 -- a note of version 1 does not tell its object, one of version 2 does
-unfoldable pub Tells : Version → Origin → Type 0
-Tells One Untold = Unit {0}
-Tells One (Object i) = ⊥
-Tells Two Untold = ⊥
-Tells Two (Object i) = i < indices
+unfoldable pub Tells : Version → Std.Option ℕ → Type 0
+Tells One None = Unit {0}
+Tells One (Some i) = ⊥
+Tells Two None = ⊥
+Tells Two (Some i) = i < indices
 
 -- what encode is meant for: a chart that keeps the rule, with numbers that fit their fields
 pub record Well (v : Version) (columns draws : ℕ) (ns : List Note) : Type 0 where
@@ -183,9 +180,9 @@ unfoldable pub reading : List ℕ → Reading
 reading s = reading_of (decode s)
 
 -- the meaning of each case of the code's answer
-abbrev pub meaning : Answer → Reading
-meaning (Chart version columns notes draws) = accepted version columns notes draws
-meaning Refused = refused Numbers.broken_chart
+abbrev pub meaning : Result Header Refusal → Reading
+meaning (Ok h) = accepted h.version h.columns h.notes h.draws
+meaning (Err r) = refused (code r)
 
 -- the note of index i, by the version in the header, where the bytes go on to its end
 unfoldable pub note_by : Version → List ℕ → ℕ → Option Note
@@ -194,9 +191,9 @@ note_by v s i = cond (leb (chart_size_in v i + note_size_in v) (length s)) (some
 abbrev pub note_in : List ℕ → ℕ → Option Note
 note_in s i = note_by (version_of s) s i
 
-abbrev pub found : Found → Option Note
-found (At n) = some n
-found Nothing = none
+abbrev pub found : Std.Option Note → Option Note
+found (Some n) = some n
+found None = none
 
 -- the notes of a chart; of other bytes none
 unfoldable pub notes_read : Option Score → List Note
@@ -208,4 +205,4 @@ notes_in s = notes_read (decode s)
 
 -- in place of a note, past the end of a list
 abbrev pub blank : Note
-blank = record { column = 0; hold = false; origin = Untold; start = 0; duration = 0 }
+blank = record { column = 0; hold = false; origin = None; start = 0; duration = 0 }

@@ -1,12 +1,11 @@
 -- Worked examples, computed. Assumes nothing.
-use Rattle.std.specs.Prelude.{◌≡◌, refl, true, false, List, [], ◌∷◌, ◌++◌, ℕ, ◌^◌, ◌*◌}
+use Rattle.std.specs.Prelude.{◌≡◌, refl, true, false, List, [], ◌∷◌, ◌++◌, ℕ, ◌^◌, ◌*◌, None, Some}
 use Rattle.std.specs.Float.Ieee.{of_bits, le, lt, eq}
 use Rattle.rules.specs.Numbers as Numbers
 use Rattle.floats.specs.Range.{in_range}
 use Rattle.floats.specs.Ticks.{ticks}
 use Rattle.chart.specs.declared.Note.{Note}
 use Rattle.chart.specs.declared.Version.TheVariants.{One, Two}
-use Rattle.chart.specs.declared.Origin.TheVariants.{Untold, Object}
 use Rattle.chart.specs.Tests.{every}
 use Rattle.chart.specs.Bytes.{be, num}
 use Rattle.chart.specs.Time.{time, is_time}
@@ -28,7 +27,7 @@ no_times = (refl, refl, refl, refl)
 
 -- one hold in column 1 at 1000 for 300
 hold : Note
-hold = record { column = 1; hold = true; origin = Untold; start = 0x408f_4000_0000_0000; duration = 0x4072_c000_0000_0000 }
+hold = record { column = 1; hold = true; origin = None; start = 0x408f_4000_0000_0000; duration = 0x4072_c000_0000_0000 }
 
 bytes : List ℕ
 bytes = 0x19 ∷ 0 ∷ 0 ∷ 1 ∷ 0 ∷ 0 ∷ 0 ∷ 1 ∷ 0x18 ∷ 0x40 ∷ 0x8f ∷ 0x40 ∷ 0 ∷ 0 ∷ 0 ∷ 0 ∷ 0 ∷ 0x40 ∷ 0x72 ∷ 0xc0 ∷ 0 ∷ 0 ∷ 0 ∷ 0 ∷ 0 ∷ []
@@ -43,7 +42,7 @@ hold_read = refl
 
 -- the same of object 4094, in version 2
 named : Note
-named = record { column = 1; hold = true; origin = Object 4094; start = 0x408f_4000_0000_0000; duration = 0x4072_c000_0000_0000 }
+named = record { column = 1; hold = true; origin = Some 4094; start = 0x408f_4000_0000_0000; duration = 0x4072_c000_0000_0000 }
 
 named_bytes : body Two (named ∷ []) ≡ 0x1f ∷ 0xff ∷ 0x00 ∷ 0x40 ∷ 0x8f ∷ 0x40 ∷ 0 ∷ 0 ∷ 0 ∷ 0 ∷ 0 ∷ 0x40 ∷ 0x72 ∷ 0xc0 ∷ 0 ∷ 0 ∷ 0 ∷ 0 ∷ 0 ∷ []
 unfolding body note_bytes head be named
@@ -71,7 +70,7 @@ chord_read = (refl, refl)
 
 -- of equal starts the lowest column stands first
 circle : ℕ → ℕ → Note
-circle column start = record { column = column; hold = false; origin = Untold; start = start; duration = 0 }
+circle column start = record { column = column; hold = false; origin = None; start = start; duration = 0 }
 
 in_order : arranged [] (circle 3 5 ∷ circle 1 2 ∷ circle 0 5 ∷ circle 2 2 ∷ []) ≡ circle 1 2 ∷ circle 2 2 ∷ circle 0 5 ∷ circle 3 5 ∷ []
 unfolding arranged insert rank circle

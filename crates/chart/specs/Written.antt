@@ -1,6 +1,6 @@
 -- What the writer writes is read: notes that may each stand alone in a chart may stand there together once they are in order.
 -- Assumes nothing.
-use Rattle.std.specs.Prelude.{◌≡◌, refl, true, false, List, [], ◌∷◌, ℕ, ◌+◌, ◌^◌, ◌≤◌, ◌<◌, T, length, Float}
+use Rattle.std.specs.Prelude.{◌≡◌, refl, true, false, List, [], ◌∷◌, ℕ, ◌+◌, ◌^◌, ◌≤◌, ◌<◌, T, length, Float, Option}
 use Rattle.std.proofs.Math.Path.{sym}
 use Rattle.std.proofs.Common.{◌∙◌, zero-add, arith, le-leb, lt-ltb}
 use Rattle.std.proofs.Math.Option.{some}
@@ -11,7 +11,6 @@ use Rattle.floats.specs.Ticks.{ticks}
 use Rattle.floats.specs.Laws.Values.{Sized}
 use Rattle.rules.specs.Each.{Each}
 use Rattle.chart.specs.declared.Version.{Version}
-use Rattle.chart.specs.declared.Origin.{Origin}
 use Rattle.chart.specs.declared.Note.{Note}
 use Rattle.chart.specs.Tests.{passes}
 use Rattle.chart.specs.Laws.Times.{ticks_zero, time_below, time_to_bits, to_bits_time}
@@ -24,7 +23,7 @@ use Rattle.chart.specs.Laws.Order.{Rising, length_arranged, each_arranged, sorte
 
 -- ---- the notes that the rules make, by their floats
 
-module _ (columns c : ℕ) (o : Origin) (on : c < columns) (x : Float) (fx : T (fits binary64 x)) (vx : Sized x) where
+module _ (columns c : ℕ) (o : Option ℕ) (on : c < columns) (x : Float) (fx : T (fits binary64 x)) (vx : Sized x) where
   pub circle_ok : ticks x ≤ latest → ok_note columns 0 (record { column = c; hold = false; origin = o; start = to_bits binary64 x; duration = 0 }) ≡ true
   unfolding lasts
   circle_ok end =

@@ -1,6 +1,6 @@
 // The chart's layout, in bytes. specs/Layout.antt has the same sizes.
 ghost use Rattle.std.specs.Prelude.{◌≡◌, ◌^◌, ◌<◌};
-ghost use Rattle.chart.specs.Layout.{version_number, note_size_in, chart_size_in};
+ghost use Rattle.chart.specs.Layout.{version_number, head_size, column_unit, hold_unit, zero_unit, note_size_in, chart_size_in};
 
 use crate::Version;
 
@@ -16,12 +16,51 @@ pub const OLD_NOTE_SIZE: usize = 17;
 pub const MOST_IN_CHART: u32 = 16777215;
 
 // A version's number in the header.
-pub fn number(version: Version) -> u8
-    ensures { result ≡ version_number version }
+impl From<Version> for u8 {
+    ghost from_gives = { λ version number. number ≡ version_number version };
+
+    fn from(version: Version) -> u8 {
+        match version {
+            Version::One => 1,
+            Version::Two => 2,
+        }
+    }
+}
+
+// The head of a note, and in it as a number what the column counts, what the hold's bit counts, and what the object counts.
+pub(crate) fn head_size(version: Version) -> usize
+    ensures { result ≡ head_size version }
 {
     match version {
         Version::One => 1,
-        Version::Two => 2,
+        Version::Two => 3,
+    }
+}
+
+pub(crate) fn column_unit(version: Version) -> u64
+    ensures { result ≡ column_unit version }
+{
+    match version {
+        Version::One => 16,
+        Version::Two => 1048576,
+    }
+}
+
+pub(crate) fn hold_unit(version: Version) -> u64
+    ensures { result ≡ hold_unit version }
+{
+    match version {
+        Version::One => 8,
+        Version::Two => 524288,
+    }
+}
+
+pub(crate) fn zero_unit(version: Version) -> u64
+    ensures { result ≡ zero_unit version }
+{
+    match version {
+        Version::One => 8,
+        Version::Two => 128,
     }
 }
 
@@ -40,8 +79,5 @@ pub fn place(version: Version, index: usize) -> usize
     requires { index < 2 ^ 32 }
     ensures { (result ≡ chart_size_in version index) × (result < 2 ^ 40) }
 {
-    match version {
-        Version::One => HEADER_SIZE + OLD_NOTE_SIZE * index,
-        Version::Two => HEADER_SIZE + NOTE_SIZE * index,
-    }
+    HEADER_SIZE + note_size(version) * index
 }

@@ -13,39 +13,33 @@ pub enum Version {
     Two,
 }
 
-// The object that a note was made from, by its index in the record. A chart of version 1 does not tell it.
-#[derive(Clone, Copy)]
-pub enum Origin {
-    Untold,
-    Object(u16),
-}
-
-// A note of the chart. Its start and its duration are the bit patterns of two f64.
+// A note of the chart. Its origin is the object that it was made from, by the index in the record; a chart of version 1 does not tell it. Its start and
+// its duration are the bit patterns of two f64.
 #[repr(C)]
 #[derive(Clone, Copy)]
 pub struct Note {
     pub column: u8,
+    // Beside the duration, as in the bytes: the reader has to see a circle that has one, to refuse it.
     pub hold: bool,
-    pub origin: Origin,
+    pub origin: Option<u16>,
     pub start: u64,
     pub duration: u64,
 }
 
-// What the chart reader answers; `meaning` of specs/Chart.antt gives document 01's number.
-#[derive(Clone, Copy)]
-pub enum Answer {
-    Chart {
-        version: Version,
-        columns: u32,
-        notes: u32,
-        draws: u32,
-    },
-    Refused,
-}
+// In place of a note before the first.
+pub const BLANK: Note = Note {
+    column: 0,
+    hold: false,
+    origin: None,
+    start: 0,
+    duration: 0,
+};
 
-// The note of an index.
+// What a chart's header says, once the chart is read.
 #[derive(Clone, Copy)]
-pub enum Found {
-    At(Note),
-    Nothing,
+pub struct Header {
+    pub version: Version,
+    pub columns: u32,
+    pub notes: u32,
+    pub draws: u32,
 }

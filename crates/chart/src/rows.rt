@@ -1,13 +1,14 @@
 // A note in bytes.
-ghost use Rattle.std.specs.Prelude.{◌≡◌, cond, ◌+◌, ◌*◌, ◌%◌, ◌≤◌, ◌<◌, eqb, length, drop};
-ghost use Rattle.chart.specs.Layout.{note_size_in, note_size, zero_unit, column_values, indices};
+ghost use Rattle.std.specs.Prelude.{◌≡◌, ◌+◌, ◌%◌, ◌≤◌, eqb, length, drop};
+ghost use Rattle.chart.specs.Layout.{head_size, note_size_in, note_size, zero_unit};
 ghost use Rattle.chart.specs.declared.Version.TheVariants.{One, Two};
-ghost use Rattle.chart.specs.Bytes.{splice};
+ghost use Rattle.chart.specs.Bytes.{be, splice};
 ghost use Rattle.chart.specs.Chart as Chart;
 ghost use Rattle.chart.specs.Chart.{note_of, note_bytes};
 
 use crate::bytes::{get, get3, get8, put, put3, put8};
-use crate::{Note, Origin, Version};
+use crate::layout::{column_unit, head_size, hold_unit, zero_unit};
+use crate::{Note, Version};
 
 // The note of version 2 in the bytes from `at`.
 pub fn note_at(s: &[u8], at: usize) -> Note
@@ -18,7 +19,7 @@ pub fn note_at(s: &[u8], at: usize) -> Note
     Note {
         column: (head / 1048576) as u8,
         hold: head % 1048576 >= 524288,
-        origin: Origin::Object((head / 128 % 4096) as u16),
+        origin: Some((head / 128 % 4096) as u16),
         start: get8(s, at + 3),
         duration: get8(s, at + 11),
     }
@@ -33,13 +34,13 @@ fn old_note_at(s: &[u8], at: usize) -> Note
     Note {
         column: head / 16,
         hold: head % 16 >= 8,
-        origin: Origin::Untold,
+        origin: None,
         start: get8(s, at + 1),
         duration: get8(s, at + 9),
     }
 }
 
-// The note of a version in the bytes from `at`.
+// The note of a version in the bytes from `at`. A function of its own for each version, since the size of a head that is read should be a literal.
 pub fn note_in(version: Version, s: &[u8], at: usize) -> Note
     requires { at + note_size_in version ≤ length s.now }
     ensures { result ≡ note_of version (drop at s.now) }
@@ -61,68 +62,33 @@ pub fn zeros_ok(version: Version, s: &[u8], at: usize) -> bool
     }
 }
 
-// The object's index in a note's head.
-fn index(origin: Origin) -> u16
-    ensures { result ≡ Chart.index origin }
+// A note's head.
+fn head(version: Version, n: Note) -> u64
+    ensures { result ≡ Chart.head version n }
 {
-    match origin {
-        Origin::Untold => 0,
-        Origin::Object(i) => i,
+    let column = u64::from(n.column) * column_unit(version);
+    let hold = if n.hold { hold_unit(version) } else { 0 };
+    let object = u64::from(n.origin.unwrap_or(0)) * zero_unit(version);
+    column + hold + object
+}
+
+fn put_head(version: Version, s: &mut [u8], at: usize, head: u64)
+    requires { at + head_size version ≤ length s.old }
+    ensures { s.new ≡ splice s.old at (be (head_size version) head) }
+{
+    match version {
+        Version::One => put(s, at, 1, head),
+        Version::Two => put3(s, at, head),
     }
 }
 
-// A note's head in version 2.
-fn head(n: Note) -> u64
-    requires { (n.column < column_values) × (Chart.index n.origin < indices) }
-    ensures { result ≡ Chart.head Two n }
+// Stores a note in the bytes from `at`. All other bytes keep their values.
+pub fn put_note(version: Version, s: &mut [u8], at: usize, n: Note)
+    requires { at + note_size_in version ≤ length s.old }
+    ensures { s.new ≡ splice s.old at (note_bytes version n) }
 {
-    let origin = n.origin;
-    let column = n.column as u64 * 1048576;
-    let object = index(origin) as u64 * 128;
-    if n.hold {
-        column + 524288 + object
-    } else {
-        column + object
-    }
-}
-
-// Stores a note of version 2 in the bytes from `at`. All other bytes keep their values.
-pub fn put_note(s: &mut [u8], at: usize, n: Note)
-    requires { (n.column < column_values) × (Chart.index n.origin < indices) × (at + note_size ≤ length s.old) }
-    ensures { s.new ≡ splice s.old at (note_bytes Two n) }
-{
-    put8(s, at + 3, n.start);
-    put3(s, at, head(n));
-    put8(s, at + 11, n.duration);
-}
-
-// The same, for a note that was read from bytes: with no branch between the stores the compiler moves the bytes as they are.
-pub fn put_row(s: &mut [u8], at: usize, row: Note)
-    requires { (row.column < column_values) × (Chart.index row.origin < indices) × (at + note_size ≤ length s.old) }
-    ensures { s.new ≡ splice s.old at (note_bytes Two row) }
-{
-    put3(s, at, head(row));
-    put8(s, at + 3, row.start);
-    put8(s, at + 11, row.duration);
-}
-
-// A note's head in version 1.
-fn old_head(column: u8, hold: bool) -> u64
-    ensures { result ≡ column * 16 + cond hold 8 0 }
-{
-    if hold {
-        column as u64 * 16 + 8
-    } else {
-        column as u64 * 16
-    }
-}
-
-// Stores a note of version 1, which does not tell its object, in the bytes from `at`. All other bytes keep their values.
-pub fn put_old_note(s: &mut [u8], at: usize, n: Note)
-    requires { (Chart.index n.origin ≡ 0) × (at + note_size_in One ≤ length s.old) }
-    ensures { s.new ≡ splice s.old at (note_bytes One n) }
-{
-    put(s, at, 1, old_head(n.column, n.hold));
-    put8(s, at + 1, n.start);
-    put8(s, at + 9, n.duration);
+    let size = head_size(version);
+    put_head(version, s, at, head(version, n));
+    put8(s, at + size, n.start);
+    put8(s, at + size + 8, n.duration);
 }

@@ -1,10 +1,9 @@
 -- Worked examples, computed.
 -- Assumes nothing.
-use Rattle.std.specs.Prelude.{◌≡◌, refl, true, false, List, [], ◌∷◌, ℕ}
+use Rattle.std.specs.Prelude.{◌≡◌, refl, true, false, List, [], ◌∷◌, ℕ, Some}
 use Rattle.std.specs.Float.Ieee.{of_bits, le, lt, eq}
 use Rattle.rules.specs.Numbers as Numbers
 use Rattle.floats.specs.Ticks.{ticks}
-use Rattle.chart.specs.declared.Origin.TheVariants.{Object}
 use Rattle.chart.specs.declared.Note.{Note}
 use Rattle.chart.specs.Tests.{every}
 use Rattle.chart.specs.Time.{time}
@@ -17,10 +16,10 @@ use Rattle.chart_lookup.specs.Nearest.{away, better, taken, nearest, placed, see
 -- a hold at 0.1 for 0.2 in column 0, circles at 1 and 3 there, and one at 3 in column 1
 notes : List Note
 notes =
-    record { column = 0; hold = true; origin = Object 0; start = 0x3fb9_9999_9999_999a; duration = 0x3fc9_9999_9999_999a }
-    ∷ record { column = 0; hold = false; origin = Object 1; start = 0x3ff0_0000_0000_0000; duration = 0 }
-    ∷ record { column = 0; hold = false; origin = Object 2; start = 0x4008_0000_0000_0000; duration = 0 }
-    ∷ record { column = 1; hold = false; origin = Object 3; start = 0x4008_0000_0000_0000; duration = 0 }
+    record { column = 0; hold = true; origin = Some 0; start = 0x3fb9_9999_9999_999a; duration = 0x3fc9_9999_9999_999a }
+    ∷ record { column = 0; hold = false; origin = Some 1; start = 0x3ff0_0000_0000_0000; duration = 0 }
+    ∷ record { column = 0; hold = false; origin = Some 2; start = 0x4008_0000_0000_0000; duration = 0 }
+    ∷ record { column = 1; hold = false; origin = Some 3; start = 0x4008_0000_0000_0000; duration = 0 }
     ∷ []
 
 -- 1, 2, 3, and the f64 to which 0.1 + 0.2 is rounded

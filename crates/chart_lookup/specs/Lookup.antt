@@ -1,10 +1,13 @@
 -- The lookups of notes around a moment.
 -- Assumes nothing.
-use Rattle.std.specs.Prelude.{Bool, not, ◌&&◌, cond, List, [], ◌∷◌, ◌++◌, ℕ, suc, ◌+◌, leb, length, drop}
+use Rattle.std.specs.Prelude.{Bool, not, ◌&&◌, cond, List, [], ◌∷◌, ◌++◌, ℕ, suc, ◌+◌, leb, length, drop, Some, None, Result, Ok, Err}
+use Rattle.std.specs.Prelude as Std
 use Rattle.std.proofs.Math.Option.{Option, none, some}
 use Rattle.std.specs.Float.Ieee.{lt, le}
 use Rattle.std.specs.Float.Ieee.Scale.{finite}
 use Rattle.rules.specs.Numbers as Numbers
+use Rattle.rules.specs.Coded.{code}
+use Rattle.rules.specs.declared.Refusal.{Refusal}
 use Rattle.floats.specs.Ticks.{ticks}
 use Rattle.chart.specs.declared.Note.{Note}
 use Rattle.chart.specs.Time.{time}
@@ -12,8 +15,6 @@ use Rattle.chart.specs.Chart.{Score, decode}
 use Rattle.exact_times.specs.Instants.{instant, covers_at}
 use Rattle.chart_lookup.specs.declared.Wanted.{Wanted}
 use Rattle.chart_lookup.specs.declared.Wanted.TheVariants.{Starting, Covering}
-use Rattle.chart_lookup.specs.declared.Listed.{Listed}
-use Rattle.chart_lookup.specs.declared.Listed.TheVariants.{Places, Nothing, Refused}
 
 -- document 02's answers: the number of a refusal, that nothing is found, or a number of places
 pub data Outcome : Type 0 where
@@ -22,10 +23,10 @@ pub data Outcome : Type 0 where
   found : ℕ → Outcome
 
 -- the meaning of each case of the code's answer
-abbrev pub told : Listed → Outcome
-told (Places k) = found k
-told Nothing = nothing
-told (Refused n) = refused n
+abbrev pub told : Result (Std.Option ℕ) Refusal → Outcome
+told (Ok (Some k)) = found k
+told (Ok None) = nothing
+told (Err r) = refused (code r)
 
 -- ---- which notes are asked for
 

@@ -9,8 +9,6 @@ use Rattle.chart.specs.declared.Note.{Note}
 use Rattle.chart.specs.Time.{time}
 use Rattle.chart.specs.Chart.{Score, decode}
 use Rattle.exact_times.specs.Instants.{instant, distance}
-use Rattle.chart_lookup.specs.declared.nearest.Sought.{Sought}
-use Rattle.chart_lookup.specs.declared.nearest.Sought.TheVariants.{Place, Nothing, Refused}
 use Rattle.chart_lookup.specs.Lookup.{Outcome, refused, nothing, found}
 
 -- how far a note's start lies from an instant
@@ -44,9 +42,3 @@ sought_in (some c) column t = seeking c.columns c.notes column t
 
 unfoldable pub sought : List ℕ → ℕ → Float → Outcome
 sought s column t = sought_in (decode s) column t
-
--- the meaning of each case of the code's answer
-abbrev pub told : Sought → Outcome
-told (Place k) = found k
-told Nothing = nothing
-told (Refused n) = refused n

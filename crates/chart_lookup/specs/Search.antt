@@ -1,6 +1,6 @@
 -- What the parts of a lookup find, for their contracts.
 -- Assumes nothing.
-use Rattle.std.specs.Prelude.{◌≡◌, Bool, false, List, [], ◌∷◌, ℕ, zero, suc, ◌≤◌, ◌<◌, length, get_or, drop, Float}
+use Rattle.std.specs.Prelude.{◌≡◌, Bool, false, List, [], ◌∷◌, ℕ, zero, suc, ◌≤◌, ◌<◌, length, get_or, drop, Float, Option, Some, None}
 use Rattle.chart.specs.declared.Note.{Note}
 use Rattle.chart_lookup.specs.declared.Wanted.TheVariants.{Covering}
 use Rattle.chart.specs.Chart.{notes_in, blank}
@@ -37,6 +37,11 @@ pub record Next (ns : List Note) (column i k : ℕ) : Type 0 where
   pub within : k ≤ length ns
   pub none_before : (j : ℕ) → i ≤ j → j < k → (get_or ns j blank).column ≡ column → ⊥
   pub there : k < length ns → (get_or ns k blank).column ≡ column
+
+-- one more than a place, 0 for none
+abbrev pub past : Option ℕ → ℕ
+past None = 0
+past (Some i) = suc i
 
 -- k is one more than the place of the last note of a column before the place i, or 0 where there is none
 pub record Last (ns : List Note) (column i k : ℕ) : Type 0 where

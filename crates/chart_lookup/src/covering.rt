@@ -6,11 +6,10 @@ ghost use Rattle.chart.specs.Chart.{notes_in, blank};
 ghost use Rattle.chart_lookup.specs.Lookup.{wanted, places, filled, given, told};
 ghost use Rattle.chart_lookup.specs.Search.{Stretch, held_from};
 
-use crate::Listed;
 use crate::starts::starting_before;
 use chart_reader::note_of;
 use exact_times::moments::{covers, first_after};
-use rules::numbers;
+use rules::Refusal;
 
 // Whether the note of a place is a hold that covers an instant. Most notes end before it, circles too, so the kind is looked at last.
 fn is_covering(chart: &[u8], place: u32, at: f64) -> bool
@@ -25,19 +24,17 @@ fn is_covering(chart: &[u8], place: u32, at: f64) -> bool
     }
 }
 
-// The place of the first such hold, or `end` where there is none before it.
+// The place of the first such hold, or `end` where there is none before it: the callers count from there either way.
 fn first_covering(chart: &[u8], end: u32, at: f64) -> u32
     requires { (end ≤ length (notes_in chart.now)) × (finite at ≡ true) }
     ensures { (result ≤ end) × (held_from at result chart.now ≡ held_from at 0 chart.now) }
 {
-    let mut i = 0;
-    while i < end {
+    for i in 0..end {
         if is_covering(chart, i, at) {
             return i;
         }
-        i += 1;
     }
-    i
+    end
 }
 
 // How many there are from a place on.
@@ -46,17 +43,16 @@ fn count_covering(chart: &[u8], first: u32, end: u32, at: f64) -> u32
     ensures { result ≡ length (held_from at first chart.now) }
 {
     let mut found = 0;
-    let mut i = first;
-    while i < end {
+    for i in first..end {
         if is_covering(chart, i, at) {
             found += 1;
         }
-        i += 1;
     }
     found
 }
 
-// Writes the places of those from a place on, `found` of them. Later entries keep their values.
+// Writes the places of those from a place on, `found` of them. Later entries keep their values. A `while`, since the loop ends with the last place written,
+// not with the last note.
 fn write_covering(chart: &[u8], first: u32, end: u32, found: u32, at: f64, list: &mut [u32])
     requires { Stretch (wanted (Covering at)) (notes_in chart.now) first end × (finite at ≡ true) × (found ≡ length (held_from at first chart.now)) × (found ≤ length list.old) }
     ensures { list.new ≡ filled (held_from at first chart.now) list.old }
@@ -73,7 +69,12 @@ fn write_covering(chart: &[u8], first: u32, end: u32, found: u32, at: f64, list:
 }
 
 // The lookup in a chart that was read. Only notes that start at or before the instant are looked at.
-pub fn list_covering(chart: &[u8], count: u32, at: f64, list: &mut [u32]) -> Listed
+pub fn list_covering(
+    chart: &[u8],
+    count: u32,
+    at: f64,
+    list: &mut [u32],
+) -> Result<Option<u32>, Refusal>
     requires { (count ≡ length (notes_in chart.now)) × (finite at ≡ true) }
     ensures { (told result, list.new) ≡ given (places (wanted (Covering at)) 0 (notes_in chart.now)) list.old }
 {
@@ -81,11 +82,11 @@ pub fn list_covering(chart: &[u8], count: u32, at: f64, list: &mut [u32]) -> Lis
     let first = first_covering(chart, end, at);
     let found = count_covering(chart, first, end, at);
     if found == 0 {
-        return Listed::Nothing;
+        return Ok(None);
     }
     if found as usize > list.len() {
-        return Listed::Refused(numbers::LIST_TOO_SHORT);
+        return Err(Refusal::ListTooShort);
     }
     write_covering(chart, first, end, found, at, list);
-    Listed::Places(found)
+    Ok(Some(found))
 }

@@ -12,24 +12,16 @@ ghost use Rattle.chart_lookup.specs.Lookup.{times_ok, listed, listing, told};
 
 use crate::covering::list_covering;
 use crate::starting::list_starting;
-use chart::Answer;
 use chart_reader::read;
 use floats::is_finite;
-use rules::numbers;
+use rules::Refusal;
 
-// Which notes a list lookup asks for: those that start within two times, ends included; or the holds that cover an instant.
+// Which notes a list lookup asks for: those that start within two times, ends included; or the holds that cover an instant. Not a test of a note as a
+// closure, since each kind has a search of its own.
 #[derive(Clone, Copy)]
 pub enum Wanted {
     Starting { from: f64, to: f64 },
     Covering { at: f64 },
-}
-
-// What a list lookup answers: how many places it wrote, at least one; that there is none; or a refusal's number.
-#[derive(Clone, Copy)]
-pub enum Listed {
-    Places(u32),
-    Nothing,
-    Refused(u8),
 }
 
 // Whether the times are finite and in order.
@@ -50,13 +42,13 @@ fn times_ok(w: Wanted) -> bool
     }
 }
 
-// A list lookup in a chart that was read.
-fn list_read(chart: &[u8], count: u32, w: Wanted, list: &mut [u32]) -> Listed
+// A list lookup in a chart that was read, as `list_notes`.
+fn list_read(chart: &[u8], count: u32, w: Wanted, list: &mut [u32]) -> Result<Option<u32>, Refusal>
     requires { count ≡ length (notes_in chart.now) }
     ensures { (told result, list.new) ≡ listed w (notes_in chart.now) list.old }
 {
     if !times_ok(w) {
-        return Listed::Refused(numbers::TIMES);
+        return Err(Refusal::Times);
     }
     match w {
         Wanted::Starting { from, to } => list_starting(chart, count, from, to, list),
@@ -64,17 +56,11 @@ fn list_read(chart: &[u8], count: u32, w: Wanted, list: &mut [u32]) -> Listed
     }
 }
 
-// The notes that are asked for, listed by their places in the chart.
-pub fn list_notes(chart: &[u8], w: Wanted, list: &mut [u32]) -> Listed
+// The notes that are asked for, listed by their places in the chart: how many places were written, which is one at least, or none where there is no such
+// note.
+pub fn list_notes(chart: &[u8], w: Wanted, list: &mut [u32]) -> Result<Option<u32>, Refusal>
     ensures { (told result, list.new) ≡ listing chart.now w list.old }
 {
-    match read(chart) {
-        Answer::Chart {
-            version: _,
-            columns: _,
-            notes,
-            draws: _,
-        } => list_read(chart, notes, w, list),
-        Answer::Refused => Listed::Refused(numbers::BROKEN_CHART),
-    }
+    let header = read(chart)?;
+    list_read(chart, header.notes, w, list)
 }

@@ -6,37 +6,40 @@ ghost use Rattle.chart.specs.Chart.{notes_in};
 ghost use Rattle.chart_lookup.specs.Lookup.{wanted, places, filled, given, told};
 ghost use Rattle.chart_lookup.specs.Search.{run};
 
-use crate::Listed;
 use crate::starts::starting_before;
 use exact_times::moments::{first_after, first_at};
-use rules::numbers;
+use rules::Refusal;
 
 // Writes consecutive places. Later entries keep their values.
 fn write_run(first: u32, found: u32, list: &mut [u32])
     requires { (first + found < 2 ^ 32) × (found ≤ length list.old) }
     ensures { list.new ≡ filled (run first found) list.old }
 {
-    let mut k = 0;
-    while k < found {
+    for k in 0..found {
         list[k as usize] = first + k;
-        k += 1;
     }
 }
 
 // The lookup in a chart that was read. Starts never fall, so the places follow one another.
-pub fn list_starting(chart: &[u8], count: u32, from: f64, to: f64, list: &mut [u32]) -> Listed
+pub fn list_starting(
+    chart: &[u8],
+    count: u32,
+    from: f64,
+    to: f64,
+    list: &mut [u32],
+) -> Result<Option<u32>, Refusal>
     requires { (count ≡ length (notes_in chart.now)) × (finite from ≡ true) × (finite to ≡ true) }
     ensures { (told result, list.new) ≡ given (places (wanted (Starting from to)) 0 (notes_in chart.now)) list.old }
 {
     let first = starting_before(chart, count, first_at(from));
     let end = starting_before(chart, count, first_after(to));
     if end <= first {
-        return Listed::Nothing;
+        return Ok(None);
     }
     let found = end - first;
     if found as usize > list.len() {
-        return Listed::Refused(numbers::LIST_TOO_SHORT);
+        return Err(Refusal::ListTooShort);
     }
     write_run(first, found, list);
-    Listed::Places(found)
+    Ok(Some(found))
 }

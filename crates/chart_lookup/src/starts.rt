@@ -5,7 +5,8 @@ ghost use Rattle.chart_lookup.specs.Search.{Parts};
 
 use chart_reader::note_of;
 
-// How many notes start before a bit pattern. Starts never fall, so these are the first notes, and the place of the next one is found by halves.
+// How many notes start before a bit pattern. Starts never fall, so these are the first notes, and the place of the next one is found by halves:
+// std's `partition_point` would do so, but asks for a slice of notes, and a chart is a slice of bytes.
 pub fn starting_before(chart: &[u8], count: u32, pattern: u64) -> u32
     requires { count ≡ length (notes_in chart.now) }
     ensures { Parts (notes_in chart.now) pattern result }

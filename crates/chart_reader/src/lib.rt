@@ -14,8 +14,9 @@ use chart::bytes::get;
 use chart::layout::HEADER_SIZE;
 use chart::order::precedes;
 use chart::rows::{note_in, zeros_ok};
-use chart::{Answer, Found, Note, Origin, Version, layout};
+use chart::{BLANK, Header, Note, Version, layout};
 use floats::format::INFINITY;
+use rules::Refusal;
 
 // A hold lasts; the duration of a circle is zero bits.
 fn lasting(hold: bool, duration: u64) -> bool
@@ -48,7 +49,8 @@ fn may_stand(columns: u8, last: Note, n: Note) -> bool
     within(n.start, n.duration)
 }
 
-// The version by the header's first four bits: a number other than 1 reads as 2, and is tested.
+// The version by the header's first four bits. No `TryFrom`: a note is read from bytes of any header, where a number other than 1 reads as 2; the reader of
+// a whole chart tests it.
 fn version_of(chart: &[u8]) -> Version
     requires { 1 ≤ length chart.now }
     ensures { result ≡ version_of chart.now }
@@ -68,7 +70,7 @@ fn header_ok(chart: &[u8]) -> bool
         return false;
     }
     let version = version_of(chart);
-    if chart[0] / 16 != layout::number(version) {
+    if chart[0] / 16 != u8::from(version) {
         return false;
     }
     if chart[0] % 16 < 1 {
@@ -85,15 +87,8 @@ fn rows_ok(version: Version, columns: u8, chart: &[u8], count: usize) -> bool
     requires { (columns < column_values) × (chart_size_in version count ≤ length chart.now) × (count ≤ most_in_chart) }
     ensures { result ≡ ok_rows version columns 0 count (drop header_size chart.now) }
 {
-    let mut last = Note {
-        column: 0,
-        hold: false,
-        origin: Origin::Untold,
-        start: 0,
-        duration: 0,
-    };
-    let mut i = 0;
-    while i < count {
+    let mut last = BLANK;
+    for i in 0..count {
         let at = layout::place(version, i);
         if !zeros_ok(version, chart, at) {
             return false;
@@ -103,7 +98,6 @@ fn rows_ok(version: Version, columns: u8, chart: &[u8], count: usize) -> bool
             return false;
         }
         last = n;
-        i += 1;
     }
     true
 }
@@ -116,39 +110,39 @@ pub fn draws_in(chart: &[u8]) -> u32
     get(chart, 4, 4) as u32
 }
 
-pub fn read(chart: &[u8]) -> Answer
+pub fn read(chart: &[u8]) -> Result<Header, Refusal>
     ensures { meaning result ≡ reading chart.now }
 {
     if !header_ok(chart) {
-        return Answer::Refused;
+        return Err(Refusal::BrokenChart);
     }
     let version = version_of(chart);
     let columns = chart[0] % 16;
     let notes = get(chart, 1, 3) as u32;
     if !rows_ok(version, columns, chart, notes as usize) {
-        return Answer::Refused;
+        return Err(Refusal::BrokenChart);
     }
-    Answer::Chart {
+    Ok(Header {
         version,
         columns: columns as u32,
         notes,
         draws: draws_in(chart),
-    }
+    })
 }
 
 // The note of an index, counted from 0.
-pub fn note(chart: &[u8], index: u32) -> Found
+pub fn note(chart: &[u8], index: u32) -> Option<Note>
     ensures { found result ≡ note_in chart.now index }
 {
     if chart.len() < HEADER_SIZE {
-        return Found::Nothing;
+        return None;
     }
     let version = version_of(chart);
     let at = layout::place(version, index as usize);
     if at + layout::note_size(version) > chart.len() {
-        return Found::Nothing;
+        return None;
     }
-    Found::At(note_in(version, chart, at))
+    Some(note_in(version, chart, at))
 }
 
 // The note of a place in a chart that was read.
@@ -156,14 +150,5 @@ pub fn note_of(chart: &[u8], place: u32) -> Note
     requires { place < length (notes_in chart.now) }
     ensures { result ≡ get_or (notes_in chart.now) place blank }
 {
-    match note(chart, place) {
-        Found::At(n) => n,
-        Found::Nothing => Note {
-            column: 0,
-            hold: false,
-            origin: Origin::Untold,
-            start: 0,
-            duration: 0,
-        },
-    }
+    note(chart, place).unwrap_or(BLANK)
 }

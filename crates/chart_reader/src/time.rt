@@ -4,7 +4,7 @@ ghost use Rattle.floats.specs.Ticks.{ticks};
 ghost use Rattle.chart.specs.Time.{time, latest};
 ghost use Rattle.floats.specs.Format.{infinity};
 
-use exact_times::{is_greater, sum_order};
+use exact_times::sum_order;
 
 // The bit pattern of 33554431.0.
 const LATEST: u64 = 0x417f_ffff_f000_0000;
@@ -14,5 +14,5 @@ pub fn within(start: u64, duration: u64) -> bool
     requires { (start < infinity) × (duration < infinity) }
     ensures { result ≡ leb (ticks (time start) + ticks (time duration)) latest }
 {
-    !is_greater(sum_order(start, duration, LATEST))
+    sum_order(start, duration, LATEST).is_le()
 }

@@ -8,6 +8,10 @@ use Rattle.text.specs.Text.{ascii, decimal, named, with_hex}
 
 -- ---- lines
 
+-- two numbers and the draws, each number after its word
+unfoldable pub draws_line : List ℕ → ℕ → List ℕ → ℕ → ℕ → List ℕ
+draws_line first a second b draws = named first a ++ named second b ++ named (ascii " draws ") draws ++ ascii "\n"
+
 unfoldable pub head_line : ℕ → ℕ → ℕ → List ℕ
 head_line columns notes draws = named (ascii "columns ") columns ++ named (ascii " notes ") notes ++ named (ascii " draws ") draws ++ ascii "\n"
 

@@ -4,11 +4,31 @@
 ghost use Rattle.std.specs.Prelude.{◌≡◌, ◌+◌, ◌*◌, ◌≤◌, ◌<◌, length};
 ghost use Rattle.chart.specs.Bytes.{splice};
 ghost use Rattle.chart.specs.Chart.{notes_in};
-ghost use Rattle.chart_text.specs.Text.{head_line, note_line, note_lines, refusal_line, text};
+ghost use Rattle.chart_text.specs.Text.{draws_line, head_line, note_line, note_lines, refusal_line, text};
 
-use chart::{Answer, Note};
+use chart::Note;
 use chart_reader::{note_of, read};
 use text::{put_decimal, put_named, put_with_hex, put_word};
+
+// Stores a line of two numbers and the draws from `at`, each number after its word, and gives the index after it.
+fn put_draws_line(
+    s: &mut [u8],
+    at: usize,
+    first: &[u8],
+    a: u32,
+    second: &[u8],
+    b: u32,
+    draws: u32,
+) -> usize
+    requires { (length first.now ≤ 8) × (length second.now ≤ 8) × (at + 64 ≤ length s.old) }
+    ensures value { (result ≡ at + length (draws_line first.now a second.now b draws)) × (result ≤ at + 64) }
+    ensures s_after { s.new ≡ splice s.old at (draws_line first.now a second.now b draws) }
+{
+    let one = put_named(s, at, first, a);
+    let two = put_named(s, one, second, b);
+    let three = put_named(s, two, b" draws ", draws);
+    put_word(s, three, b"\n")
+}
 
 // Stores a chart's first line from `at`, where there is room for 64 bytes, and gives the index after it.
 pub fn put_head_line(s: &mut [u8], at: usize, columns: u32, notes: u32, draws: u32) -> usize
@@ -16,10 +36,7 @@ pub fn put_head_line(s: &mut [u8], at: usize, columns: u32, notes: u32, draws: u
     ensures value { (result ≡ at + length (head_line columns notes draws)) × (result ≤ at + 64) }
     ensures s_after { s.new ≡ splice s.old at (head_line columns notes draws) }
 {
-    let a = put_named(s, at, b"columns ", columns);
-    let b = put_named(s, a, b" notes ", notes);
-    let c = put_named(s, b, b" draws ", draws);
-    put_word(s, c, b"\n")
+    put_draws_line(s, at, b"columns ", columns, b" notes ", notes, draws)
 }
 
 // Stores a note's line from `at`, where there is room for 51 bytes, and gives the index after it.
@@ -44,10 +61,7 @@ pub fn put_refusal_line(s: &mut [u8], at: usize, number: u32, object: u32, draws
     ensures value { (result ≡ at + length (refusal_line number object draws)) × (result ≤ at + 64) }
     ensures s_after { s.new ≡ splice s.old at (refusal_line number object draws) }
 {
-    let a = put_named(s, at, b"refused ", number);
-    let b = put_named(s, a, b" object ", object);
-    let c = put_named(s, b, b" draws ", draws);
-    put_word(s, c, b"\n")
+    put_draws_line(s, at, b"refused ", number, b" object ", object, draws)
 }
 
 // Stores the lines of the notes of a chart, of which there are `count`, from `at`, where there is room for 51 bytes each, and gives the index after
@@ -58,11 +72,9 @@ fn put_note_lines(chart: &[u8], count: u32, s: &mut [u8], at: usize) -> usize
     ensures s_after { s.new ≡ splice s.old at (note_lines (notes_in chart.now)) }
 {
     let mut next = at;
-    let mut i = 0;
-    while i < count {
+    for i in 0..count {
         let n = note_of(chart, i);
         next = put_note_line(s, next, n);
-        i += 1;
     }
     next
 }
@@ -74,15 +86,10 @@ pub fn put_chart(chart: &[u8], s: &mut [u8]) -> usize
     ensures s_after { s.new ≡ splice s.old 0 (text chart.now) }
 {
     match read(chart) {
-        Answer::Chart {
-            version: _,
-            columns,
-            notes,
-            draws,
-        } => {
-            let at = put_head_line(s, 0, columns, notes, draws);
-            put_note_lines(chart, notes, s, at)
+        Ok(header) => {
+            let at = put_head_line(s, 0, header.columns, header.notes, header.draws);
+            put_note_lines(chart, header.notes, s, at)
         }
-        Answer::Refused => 0,
+        Err(_) => 0,
     }
 }

@@ -6,7 +6,7 @@ pub mod order;
 
 ghost use Rattle.std.specs.Prelude.{◌≡◌, [], ◌+◌, ◌*◌, ◌≤◌, ◌<◌, length, drop};
 ghost use Rattle.chart.specs.Layout.{chart_size};
-ghost use Rattle.chart.specs.declared.Version.TheVariants.{One, Two};
+ghost use Rattle.chart.specs.declared.Version.TheVariants.{Two};
 ghost use Rattle.chart.specs.Bytes.{splice};
 ghost use Rattle.chart.specs.Chart.{header, encode, notes_of, Holds};
 ghost use Rattle.chart.specs.Order.{arranged};
@@ -14,32 +14,16 @@ ghost use Rattle.chart.specs.Order.{arranged};
 use crate::order::arrange;
 use chart::Version;
 use chart::bytes::put;
-use chart::layout::{HEADER_SIZE, NOTE_SIZE, number};
+use chart::layout::{HEADER_SIZE, NOTE_SIZE};
 
 // Stores the eight bytes of a version's header. All other bytes keep their values.
-fn put_header_in(version: Version, s: &mut [u8], columns: u8, notes: u32, draws: u32)
+pub fn put_header(version: Version, s: &mut [u8], columns: u8, notes: u32, draws: u32)
     requires { (columns < 16) × (8 ≤ length s.old) }
     ensures { s.new ≡ splice s.old 0 (header version columns notes draws) }
 {
-    s[0] = number(version) * 16 + columns;
-    put(s, 1, 3, notes as u64);
-    put(s, 4, 4, draws as u64);
-}
-
-// A header of version 2, which the converter writes.
-pub fn put_header(s: &mut [u8], columns: u8, notes: u32, draws: u32)
-    requires { (columns < 16) × (8 ≤ length s.old) }
-    ensures { s.new ≡ splice s.old 0 (header Two columns notes draws) }
-{
-    put_header_in(Version::Two, s, columns, notes, draws);
-}
-
-// A header of version 1.
-pub fn put_old_header(s: &mut [u8], columns: u8, notes: u32, draws: u32)
-    requires { (columns < 16) × (8 ≤ length s.old) }
-    ensures { s.new ≡ splice s.old 0 (header One columns notes draws) }
-{
-    put_header_in(Version::One, s, columns, notes, draws);
+    s[0] = u8::from(version) * 16 + columns;
+    put(s, 1, 3, u64::from(notes));
+    put(s, 4, 4, u64::from(draws));
 }
 
 // Makes a chart of the notes that stand behind the header's eight bytes in the order in which they came, and gives its length. The bytes
@@ -50,7 +34,7 @@ pub fn finish(chart: &mut [u8], columns: u8, notes: u32, draws: u32) -> usize
     ensures chart_after { chart.new ≡ splice chart.old 0 (encode Two columns draws (arranged [] (notes_of Two notes (drop 8 chart.old)))) }
 {
     let count = notes as usize;
-    put_header(chart, columns, notes, draws);
+    put_header(Version::Two, chart, columns, notes, draws);
     arrange(chart, 8, count);
     HEADER_SIZE + NOTE_SIZE * count
 }

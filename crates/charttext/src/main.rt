@@ -1,5 +1,6 @@
 // Reads an input and prints what `job_text` says of it. Contracts cannot speak of what is read or written, so `main` does nothing else.
 // A read or a write that fails ends it with an error.
+// The programs have a `main` each: one over the buffer's size and what fills it needs a contract longer than these five lines.
 #![tactic(auto)]
 
 use input::read_full;

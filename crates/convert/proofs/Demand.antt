@@ -13,32 +13,37 @@ use Rattle.job.proofs.Demand as Jobs
 use Rattle.job.proofs.Read.{reads}
 use Rattle.job.proofs.Refusals.{refusals}
 use Rattle.job.proofs.Largest.{largest}
-use Rattle.convert.specs.Ends.{job_end}
-use Rattle.convert.specs.Demand.{Demand, Answers, Spent, Other}
-use Rattle.convert.specs.declared.JobEnd.{JobEnd}
-use Rattle.convert.specs.declared.JobEnd.TheVariants as J
+use Rattle.std.specs.Prelude.{Ok, Err}
+use Rattle.rules.specs.Coded.{code}
+use Rattle.rules.specs.Laws.Coded.{refusal_of, refusal_of_code}
+use Rattle.convert.specs.Ends.{JobEnd, says, job_end}
+use Rattle.convert.specs.Demand.{Demand, Answers, Says, Spent, Other}
 
--- the answer that means a job's
+-- the end that says an answer
 abbrev end_of : Answer → JobEnd
-end_of (accepted n g) = J.Chart n g
-end_of (refusal r i n) = J.Refused r i n
+end_of (accepted n g) = Ok (record { length = n; longest = g })
+end_of (refusal r i n) = Err (record { refusal = refusal_of r; object = i; draws = n })
 
-end_of_law : (x : List ℕ) (r : JobEnd) → end_of (job_end x r).answer ≡ r
-end_of_law x (J.Chart n g) = refl
-end_of_law x (J.Refused r i n) = refl
-
-chart_of : (x : List ℕ) (r : JobEnd) → (job_end x r).chart ≡ x
-chart_of x (J.Chart n g) = refl
-chart_of x (J.Refused r i n) = refl
+end_of_law : (r : JobEnd) → end_of (says r) ≡ r
+end_of_law (Ok r) = refl
+end_of_law (Err r) = rw (refusal_of_code r.refusal)
 
 module _ (bytes buffer : List ℕ) where
   -- the job's answer, where the code's is known
-  answer : (a : ℕ) (r : JobEnd) (x : List ℕ) → Answers bytes buffer a r x → (job bytes buffer a).answer ≡ (job_end x r).answer
+  answer : (a : ℕ) (r : JobEnd) (x : List ℕ) → Answers bytes buffer a r x → (job bytes buffer a).answer ≡ says r
   answer a r x e = ap (λ (j : Job). j.answer) (sym e)
 
-  -- and the code's, where the job's is
-  found : (a : ℕ) (r : JobEnd) (x : List ℕ) (k : Answer) → Answers bytes buffer a r x → (job bytes buffer a).answer ≡ k → r ≡ end_of k
-  found a r x k e h = sym (end_of_law x r) ∙ ap end_of (sym (answer a r x e) ∙ h)
+  -- and where it is known what the code's says
+  said : (a : ℕ) (k : Answer) (x : List ℕ) → Says bytes buffer a k x → (job bytes buffer a).answer ≡ k
+  said a k x h = ap (λ (j : Job). j.answer) (sym h)
+
+  -- and what the code's says, where the job's is
+  found : (a : ℕ) (r : JobEnd) (x : List ℕ) (k : Answer) → Answers bytes buffer a r x → (job bytes buffer a).answer ≡ k → says r ≡ k
+  found a r x k e h = sym (answer a r x e) ∙ h
+
+  -- the bytes that it leaves are the job's
+  left : (a : ℕ) (k : Answer) (x : List ℕ) → Says bytes buffer a k x → x ≡ (job bytes buffer a).chart
+  left a k x h = ap (λ (j : Job). j.chart) h
 
   other : (a : ℕ) (r : JobEnd) (x : List ℕ) → Answers bytes buffer a r x → Other r → OfJob.Other (job bytes buffer a)
   unfolding OfJob.Other
@@ -46,11 +51,11 @@ module _ (bytes buffer : List ℕ) where
 
   spent_as : (b : ℕ) (s : JobEnd) (y : List ℕ) → Answers bytes buffer b s y → Spent s → OfJob.Spent (job bytes buffer b)
   unfolding OfJob.Spent
-  spent_as b s y f h = (h.0, h.1, answer b s y f ∙ ap (λ (e : JobEnd). (job_end y e).answer) h.2)
+  spent_as b s y f h = (h.0, h.1, answer b s y f ∙ h.2)
 
   alike : (r s : JobEnd) (x y : List ℕ) → job_end x r ≡ job_end y s → (r ≡ s) × (x ≡ y)
   alike r s x y e =
-      (sym (end_of_law x r) ∙ ap (λ (j : Job). end_of j.answer) e ∙ end_of_law y s, sym (chart_of x r) ∙ ap (λ (j : Job). j.chart) e ∙ chart_of y s)
+      (sym (end_of_law r) ∙ ap (λ (j : Job). end_of j.answer) e ∙ end_of_law s, ap (λ (j : Job). j.chart) e)
 
   pub demand : Demand bytes buffer
   unfolding OfJob.Spent
@@ -60,22 +65,22 @@ module _ (bytes buffer : List ℕ) where
       let charts = reads bytes buffer in
       record {
         condition = λ a r i n x e.
-            let h = answer a (J.Refused r i n) x e in
-            (refused.holds a r i n h, ap (λ (j : Job). j.chart) e ∙ refused.zeroed a r i n h);
+            let h = said a (refusal r i n) x e in
+            (refused.holds a r i n h, left a _ x e ∙ refused.zeroed a r i n h);
         refuses = λ a r i n e x h c. found a e x (refusal r i n) h (refused.answers a r i n c);
         else = λ a e x h none. let c = refused.else a none in (c.0, c.1, found a e x (accepted c.0 c.1) h c.2);
-        never = λ a r i n x e. let c = refused.holds a r i n (answer a (J.Refused r i n) x e) in (c.not_9, c.not_10);
-        chart = λ a n g x e. ap (λ (j : Job). j.chart) e ∙ charts.chart a n g (answer a (J.Chart n g) x e);
-        long = λ a n g x e. charts.long a n g (answer a (J.Chart n g) x e);
+        never = λ a r i n x e. let c = refused.holds a r i n (said a (refusal r i n) x e) in (c.not_9, c.not_10);
+        chart = λ a n g x e. left a _ x e ∙ charts.chart a n g (said a (accepted n g) x e);
+        long = λ a n g x e. charts.long a n g (said a (accepted n g) x e);
         room = λ a n g x e.
-            let r = charts.room a n g (answer a (J.Chart n g) x e) in
-            (r.0, ap (λ (j : Job). length j.chart) e ∙ r.1);
-        read = λ a n g x small e. ap (λ (j : Job). decode (take n j.chart)) e ∙ charts.read a n g small (answer a (J.Chart n g) x e);
+            let r = charts.room a n g (said a (accepted n g) x e) in
+            (r.0, ap length (left a _ x e) ∙ r.1);
+        read = λ a n g x small e. ap (λ (s : List ℕ). decode (take n s)) (left a _ x e) ∙ charts.read a n g small (said a (accepted n g) x e);
         lane_rule = λ a n g x small e.
-            subst (λ (s : List ℕ). LaneRule (take n s)) (sym (ap (λ (j : Job). j.chart) e)) (charts.lanes a n g small (answer a (J.Chart n g) x e));
-        needed = λ a i n x e. d.needed a i n (answer a (J.Refused 12 i n) x e);
+            subst (λ (s : List ℕ). LaneRule (take n s)) (sym (left a _ x e)) (charts.lanes a n g small (said a (accepted n g) x e));
+        needed = λ a i n x e. d.needed a i n (said a (refusal 12 i n) x e);
         whole = λ a i n x e.
-            let h = answer a (J.Refused 12 i n) x e in
+            let h = said a (refusal 12 i n) x e in
             d.told a 12 i n h ∙ d.whole a (i, n, h);
         below = λ a b r s x y e f o l.
             let h = d.below a b (other a r x e o) l in
@@ -83,13 +88,13 @@ module _ (bytes buffer : List ℕ) where
         only = λ a b r s x y e f o h. d.only a b (other a r x e o) (spent_as b s y f h);
         same = λ a b r s x y e f o l. alike r s x y (e ∙ sym (d.same a b (other a r x e o) l) ∙ sym f);
         counted = d.counted;
-        told = λ a r i n x e. d.told a r i n (answer a (J.Refused r i n) x e);
+        told = λ a r i n x e. d.told a r i n (said a (refusal r i n) x e);
         longest = λ a n g x e.
-            let is = d.longest a n g (answer a (J.Chart n g) x e) in
+            let is = d.longest a n g (said a (accepted n g) x e) in
             (is, subst (λ (k : ℕ). k ≤ search_limit) (sym is) (d.few a));
         divided = d.divided;
-        deck = λ a n g x e. d.deck a n g (answer a (J.Chart n g) x e);
-        lanes = λ a n g x e. d.lanes a n g (answer a (J.Chart n g) x e);
-        largest_chart_law = λ a n g x e. (largest bytes buffer).chart a n g (answer a (J.Chart n g) x e);
-        enough = λ room a i n x e. (largest bytes buffer).enough room a i n (answer a (J.Refused 11 i n) x e);
+        deck = λ a n g x e. d.deck a n g (said a (accepted n g) x e);
+        lanes = λ a n g x e. d.lanes a n g (said a (accepted n g) x e);
+        largest_chart_law = λ a n g x e. (largest bytes buffer).chart a n g (said a (accepted n g) x e);
+        enough = λ room a i n x e. (largest bytes buffer).enough room a i n (said a (refusal 11 i n) x e);
       }

@@ -1,6 +1,6 @@
 -- The values of an accepted song's walk pass the single-object entry's checks: previous time and density are finite, since no time is far, and the
 -- previous position is one of an object or the middle. Assumes nothing.
-use Rattle.std.specs.Prelude.{if◌then◌else◌}
+use Rattle.std.specs.Prelude.{if◌then◌else◌, Option, Some, None}
 use mathlib.Core.Path.{◌≡◌, refl, subst}
 use Prim.Native.Nat.{ℕ, zero, suc, ◌+◌, ◌-◌, ◌*◌, ◌^◌, ◌≤◌, ◌<◌}
 use native.Mathlib.Nat.{le_trans, mul-le-mul_right, div-le_self}
@@ -28,10 +28,6 @@ use Rattle.model.specs.Song.{Song}
 use Rattle.model.specs.declared.Object.{Object}
 use Rattle.model.specs.declared.Kind.{Kind}
 use Rattle.model.specs.declared.Kind.TheVariants.{Circle, Slider, Spinner, Hold}
-use Rattle.model.specs.declared.Distance.{Distance}
-use Rattle.model.specs.declared.Distance.TheVariants as D
-use Rattle.model.specs.declared.NodeSound.{NodeSound}
-use Rattle.model.specs.declared.NodeSound.TheVariants as N
 use Rattle.model.specs.declared.TimingPoint.{TimingPoint}
 use Rattle.model.specs.declared.DifficultyPoint.{DifficultyPoint}
 use Rattle.record.specs.Record.{accepted, parse}
@@ -144,7 +140,7 @@ module _ (o : Object) (span : ℕ) (h : Small latest_start o.start) (l : span �
   leaves_dense : (k : Kind) (d : Density) → FitKind k → Dense d → Dense (leaves o span k d)
   unfolding leaves
   leaves_dense Circle d f k = k
-  leaves_dense (Slider repeats distance node) d f k = nodes_dense o span h l (repeats + 2) 0 d (few repeats f.0) k
+  leaves_dense (Slider repeats distance sound) d f k = nodes_dense o span h l (repeats + 2) 0 d (few repeats f.0) k
     where
       few : (n : ℕ) → n ≤ most_repeats → 0 + (n + 2) ≤ most_rows + 1
       few n h = omega arith
@@ -154,7 +150,7 @@ module _ (o : Object) (span : ℕ) (h : Small latest_start o.start) (l : span �
   after_small : (k : Kind) → FitKind k → Small far (time_after o span k)
   unfolding time_after
   after_small Circle f = near h
-  after_small (Slider repeats distance node) f = node_small o span (repeats + 1) h l (few repeats f.0)
+  after_small (Slider repeats distance sound) f = node_small o span (repeats + 1) h l (few repeats f.0)
     where
       few : (n : ℕ) → n ≤ most_repeats → n + 1 ≤ most_rows
       few n h = omega arith
@@ -164,7 +160,7 @@ module _ (o : Object) (span : ℕ) (h : Small latest_start o.start) (l : span �
 meets_dense : (k : Kind) (start : Float) (d : Density) → Small far start → Dense d → Dense (meets k start d)
 unfolding meets
 meets_dense Circle start d h k = dense_next start d h k
-meets_dense (Slider repeats distance node) start d h k = k
+meets_dense (Slider repeats distance sound) start d h k = k
 meets_dense (Spinner duration) start d h k = k
 meets_dense (Hold duration) start d h k = k
 
@@ -173,7 +169,7 @@ meets_dense (Hold duration) start d h k = k
 kind_timely : (f : Facts) (v : PrevValues) (columns : ℕ) (o : Object) (k : Kind) → Makes (λ (m : Made). Late f o k → ⊥) (by_kind f v columns o k)
 unfolding Late by_kind PathObject.new PathObject.generate
 kind_timely f v columns o Circle = Makes.less any (λ m u l. l)
-kind_timely f v columns o (Slider repeats distance node) =
+kind_timely f v columns o (Slider repeats distance sound) =
     Makes.by (ltb PathObject.latest (PathObject.end_time f o (repeats + 1) distance)) _ _ (λ e. Makes.refusing)
     (λ e. Makes.less any (λ m u l. let z = ltb-false PathObject.latest (PathObject.end_time f o (repeats + 1) distance) e in omega arith))
 kind_timely f v columns o (Spinner duration) = Makes.less any (λ m u l. l)
@@ -186,7 +182,7 @@ object_timely f v columns o = kind_timely f v columns o o.kind
 span_le : (f : Facts) (o : Object) (k : Kind) → (Late f o k → ⊥) → span_in f o k ≤ latest_end
 unfolding span_in PathObject.span_length Late
 span_le f o Circle h = omega arith
-span_le f o (Slider repeats distance node) h =
+span_le f o (Slider repeats distance sound) h =
     let end = PathObject.end_time f o (repeats + 1) distance in
     le_trans (div-le_self (end - PathObject.start_time o) (repeats + 1)) (most end (PathObject.start_time o) (ltb latest_end end) refl h)
   where
@@ -205,7 +201,7 @@ object_position o h = rw (is_true (inside coordinate_range o.position.x) h.x.ins
 after_position : (o : Object) (k : Kind) → FitObject o → position_fits (position_after o k) ≡ true
 unfolding position_after position_fits in_range round le lt eq
 after_position o Circle h = object_position o h
-after_position o (Slider repeats distance node) h = object_position o h
+after_position o (Slider repeats distance sound) h = object_position o h
 after_position o (Spinner duration) h = refl
 after_position o (Hold duration) h = refl
 
@@ -276,20 +272,20 @@ velocity_in ps time k = velocity_from_law (double 1 1) ps time one_in k
 
 -- ---- the checks
 
-distance_in : (d : Distance) → FitDistance d → distance_fits d ≡ true
+distance_in : (d : Option Float) → FitDistance d → distance_fits d ≡ true
 unfolding distance_fits
-distance_in D.Missing h = refl
-distance_in (D.Given d) h = is_true _ h.inside
+distance_in None h = refl
+distance_in (Some d) h = is_true _ h.inside
 
-node_in : (n : NodeSound) → FitNode n → node_fits n ≡ true
+node_in : (n : Option ℕ) → FitNode n → node_fits n ≡ true
 unfolding node_fits
-node_in N.Missing h = refl
-node_in (N.Given s) h = lt-ltb s 16 h
+node_in None h = refl
+node_in (Some s) h = lt-ltb s 16 h
 
 kind_in : (k : Kind) → FitKind k → kind_fits k ≡ true
 unfolding kind_fits
 kind_in Circle h = refl
-kind_in (Slider repeats distance node) h = rw (le-leb repeats most_repeats h.0, distance_in distance h.1, node_in node h.2)
+kind_in (Slider repeats distance sound) h = rw (le-leb repeats most_repeats h.0, distance_in distance h.1, node_in sound h.2)
 kind_in (Spinner duration) h = is_true _ h.inside
 kind_in (Hold duration) h = is_true _ h.inside
 

@@ -8,6 +8,7 @@ use borrow.Author.Tests.{le-ltb, lt-ltb}
 use Rattle.rules.specs.Rule.{ended}
 use Rattle.random.specs.Generator.{seeded}
 use Rattle.random.specs.Play.{found, refused, tallied, play}
+use Rattle.std.specs.Prelude.{Ok}
 use Rattle.random.specs.declared.Draws.{Draws}
 use Rattle.random.specs.Laws.Allowance.{found_run, refused_run}
 use Rattle.record.specs.Record.{parse, accepted, song_of}
@@ -33,7 +34,6 @@ use Rattle.mania.specs.Laws.Walks.{job_made, job_stopped, splice_start, length_p
 use Rattle.walk.specs.Steps.{Written}
 use Rattle.job.specs.Job.{job_of, job}
 use Rattle.job.proofs.Read.{fits_all}
-use Rattle.convert.specs.declared.JobEnd.TheVariants as J
 use Rattle.convert.specs.Ends.{job_end, song_rule}
 
 -- a refusal leaves nothing of the buffer but its length
@@ -106,7 +106,7 @@ module _ (bytes buffer : List ℕ) (a : ℕ) (parsed : parse bytes ≡ accepted 
         subst (λ (k : ℕ). Bytes.Holds Two exit 8 k) counted (subst (λ (s : List ℕ). Bytes.Holds Two s 8 (length ps)) (sym w.written) all)
 
     pub made_job : (columns size : ℕ) (last : List ℕ) → columns ≡ columns_of S → size ≡ chart_size notes
-        → last ≡ splice exit 0 (encode Two columns n (arranged [] (notes_of Two notes (drop 8 exit)))) → job_end last (J.Chart size e.tally.longest) ≡ job bytes buffer a
+        → last ≡ splice exit 0 (encode Two columns n (arranged [] (notes_of Two notes (drop 8 exit)))) → job_end last (Ok (record { length = size; longest = e.tally.longest })) ≡ job bytes buffer a
     unfolding ending
     made_job columns size last c z f =
         let room : chart_size (length ps) ≤ length buffer = subst (λ (k : ℕ). chart_size k ≤ length buffer) (sym counted) w.room in

@@ -30,7 +30,8 @@ use Rattle.mania.specs.Range.{InRange}
 use Rattle.job.proofs.Ranges.{objects_in_range}
 use Rattle.settings.specs.Accepted.{Accepted}
 use Rattle.walk.specs.declared.Song as Walk
-use Rattle.walk.specs.declared.WalkEnd.{WalkEnd}
+use Rattle.std.specs.Prelude.{Result}
+use Rattle.walk.specs.declared.Stopped.{Stopped}
 use Rattle.walk.specs.Steps.{given_facts, Given, rule, Ends}
 use Rattle.random.specs.declared.Draws.{Draws}
 use Rattle.mania.specs.Walked.{on_walk}
@@ -40,7 +41,7 @@ use Rattle.convert.specs.Ends.{numbers_of, without_points, song_rule}
 one_longer : (k : Kind) (m n : ℕ) → m ≤ n → longer k m ≤ suc n
 unfolding longer
 one_longer Circle m n h = omega arith
-one_longer (Slider repeats distance node) m n h = omega arith
+one_longer (Slider repeats distance sound) m n h = omega arith
 one_longer (Spinner d) m n h = omega arith
 one_longer (Hold d) m n h = omega arith
 
@@ -118,7 +119,7 @@ module _ (bytes : List ℕ) (m : Summary) (k : Known bytes m) where
         effect_rises = lists.effect_rises;
       })
 
-  pub played : (g : Walk.Song) → g ≡ numbers → (entry exit : List ℕ) (d : Draws) (r : WalkEnd)
+  pub played : (g : Walk.Song) → g ≡ numbers → (entry exit : List ℕ) (d : Draws) (r : Result (ℕ × Draws) Stopped)
       → Ends (rule points part g (length entry) (m.places.objects % 8) m.counts.objects d) entry exit r → Ends (song_rule bytes (length entry) d) entry exit r
   played g e entry exit d r h =
       subst (λ (os : List Object). Ends (on_walk (walk (song_facts S) (columns_of S) (length entry) 0 beginning os) d) entry exit r) all
@@ -141,7 +142,7 @@ module _ (bytes : List ℕ) (m : Summary) (k : Known bytes m) where
         effect_rises = λ i l. absurd (omega arith);
       })
 
-  pub played_none : 0 ≡ m.counts.objects → (g : Walk.Song) → g ≡ without_points numbers → (entry exit : List ℕ) (d : Draws) (r : WalkEnd)
+  pub played_none : 0 ≡ m.counts.objects → (g : Walk.Song) → g ≡ without_points numbers → (entry exit : List ℕ) (d : Draws) (r : Result (ℕ × Draws) Stopped)
       → Ends (rule [] [] g (length entry) 0 0 d) entry exit r → Ends (song_rule bytes (length entry) d) entry exit r
   unfolding walk objects entries
   played_none none g e entry exit d r h =

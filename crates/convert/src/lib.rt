@@ -2,6 +2,7 @@
 #![tactic(auto)]
 
 ghost use Rattle.std.specs.Prelude.{◌≡◌, ◌≤◌, length, replicate};
+ghost use Rattle.rules.specs.Coded.{code};
 ghost use Rattle.job.specs.Job.{job};
 ghost use Rattle.record.specs.Record.{song_of};
 ghost use Rattle.record.specs.Laws.Known.{Known};
@@ -11,15 +12,23 @@ ghost use Rattle.convert.specs.Ends.{job_end, numbers_of, without_points, song_r
 
 use model::limits::MOST_NOTES;
 use random::{Draws, Tally};
-use record::{Checked, Summary};
-use rules::numbers;
-use walk::{PointCounts, Song, WalkEnd};
+use record::Summary;
+use rules::Refusal;
+use walk::{PointCounts, Song, Stopped};
 
-// How a job ends: with the chart's length in bytes and the most draws of one search, or with a refusal's number, the object's index and the draws so far.
+// A finished chart: its length in bytes, and the most draws of one search.
 #[derive(Clone, Copy)]
-pub enum JobEnd {
-    Chart(usize, u32),
-    Refused(u8, u32, u32),
+pub struct Converted {
+    pub length: usize,
+    pub longest: u32,
+}
+
+// A refused job: the object's index, 0 before the walk as the C interface tells it, and the draws so far.
+#[derive(Clone, Copy)]
+pub struct JobRefused {
+    pub refusal: Refusal,
+    pub object: u32,
+    pub draws: u32,
 }
 
 // The numbers that the walk takes of a record's song. The difficulty is worked out here, once a job.
@@ -66,7 +75,13 @@ fn without_points(g: Song) -> Song
 
 // The walk receives the record from the first timing point's byte, for the points, and from the byte that holds the first object's first bit; without
 // objects it receives nothing.
-fn walk_part(bytes: &[u8], m: Summary, chart: &mut [u8], g: Song, d: Draws) -> WalkEnd
+fn walk_part(
+    bytes: &[u8],
+    m: Summary,
+    chart: &mut [u8],
+    g: Song,
+    d: Draws,
+) -> Result<(u32, Draws), Stopped>
     requires { Known bytes.now m × (g ≡ numbers_of (song_of bytes.now) m.counts) × (8 ≤ length chart.old) }
     ensures { Ends (song_rule bytes.now (length chart.old) d) chart.old chart.new result }
 {
@@ -106,20 +121,34 @@ fn walk_part(bytes: &[u8], m: Summary, chart: &mut [u8], g: Song, d: Draws) -> W
 }
 
 // A refusal zeroes the whole chart buffer.
-fn refused(chart: &mut [u8], number: u8, object: u32, draws: u32) -> JobEnd
-    ensures { job_end chart.new result ≡ refusing number object draws chart.old }
+fn refused(
+    chart: &mut [u8],
+    refusal: Refusal,
+    object: u32,
+    draws: u32,
+) -> Result<Converted, JobRefused>
+    ensures { job_end chart.new result ≡ refusing (code refusal) object draws chart.old }
 {
     chart::bytes::zero(chart);
-    JobEnd::Refused(number, object, draws)
+    Err(JobRefused {
+        refusal,
+        object,
+        draws,
+    })
 }
 
 // The job of an accepted record.
-fn convert_song(bytes: &[u8], m: Summary, chart: &mut [u8], allowance: u32) -> JobEnd
+fn convert_song(
+    bytes: &[u8],
+    m: Summary,
+    chart: &mut [u8],
+    allowance: u32,
+) -> Result<Converted, JobRefused>
     requires { Known bytes.now m }
     ensures { job_end chart.new result ≡ job bytes.now chart.old allowance }
 {
     if chart.len() < 8 {
-        return refused(chart, numbers::CHART_TOO_SHORT, 0, 0);
+        return refused(chart, Refusal::ChartTooShort, 0, 0);
     }
     let g = song_of(bytes, m);
     let settings = m.settings;
@@ -130,24 +159,28 @@ fn convert_song(bytes: &[u8], m: Summary, chart: &mut [u8], allowance: u32) -> J
     };
     let d = Draws { random, tally };
     match walk_part(bytes, m, chart, g, d) {
-        WalkEnd::Made(notes, e) => {
-            let after = e.tally;
+        Ok((notes, end)) => {
+            let after = end.tally;
             let length = chart_writer::finish(chart, g.columns, notes, allowance - after.left);
-            JobEnd::Chart(length, after.longest)
+            Ok(Converted {
+                length,
+                longest: after.longest,
+            })
         }
-        WalkEnd::Refused(n, i, e) => {
-            let after = e.tally;
-            refused(chart, n, i, allowance - after.left)
+        Err(stopped) => {
+            let refusal = stopped.refused.refusal;
+            let after = stopped.refused.draws.tally;
+            refused(chart, refusal, stopped.index, allowance - after.left)
         }
     }
 }
 
 // A job: the record's bytes, the chart buffer and the allowance.
-pub fn convert(bytes: &[u8], chart: &mut [u8], allowance: u32) -> JobEnd
+pub fn convert(bytes: &[u8], chart: &mut [u8], allowance: u32) -> Result<Converted, JobRefused>
     ensures { job_end chart.new result ≡ job bytes.now chart.old allowance }
 {
     match job_reader::check_record(bytes) {
-        Checked::Refused(n) => refused(chart, n, 0, 0),
-        Checked::Accepted(m) => convert_song(bytes, m, chart, allowance),
+        Ok(m) => convert_song(bytes, m, chart, allowance),
+        Err(refusal) => refused(chart, refusal, 0, 0),
     }
 }

@@ -16,7 +16,7 @@ use Rattle.mania.specs.Convert.{node_time, nodes}
 use Rattle.mania.specs.Steps.{double#}
 use Rattle.mania.specs.LimitedQueue as Queue
 use Rattle.mania.specs.LimitedQueue.{last_seven, density_of, compute_density}
-use Rattle.density.specs.declared.Density.{Density}
+use Rattle.density.specs.declared.times.Density.{Density}
 use Rattle.density.specs.Queued.{queued, pushed}
 
 -- up to seven times all stay
@@ -70,7 +70,7 @@ module _ (ts : List Float) (n : ℕ) (old : Float) (e : length ts ≡ 7) (h : n 
 
 -- the density anew, of the times pushed
 pub computed : (p : Density) (q : Queue.Density) (time v : Float) → queued p ≡ pushed time q → v ≡ density_of (take p.len p.times) p.value
-    → queued (record { times = p.times; len = p.len; value = v }) ≡ compute_density time q
+    → queued (record { times = p.times; len = p.len; value = v; held = p.held }) ≡ compute_density time q
 unfolding queued pushed compute_density
 computed p q time v e k = rw k (ap anew e)
   where

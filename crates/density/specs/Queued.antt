@@ -1,11 +1,7 @@
 -- The queue of times as the definition has it: a list, oldest first. Assumes nothing.
-use Rattle.std.specs.Prelude.{◌≤◌, [], ◌∷◌, ◌++◌, Float, take}
+use Rattle.std.specs.Prelude.{[], ◌∷◌, ◌++◌, Float, take}
 use Rattle.mania.specs.LimitedQueue as Queue
-use Rattle.density.specs.declared.Density.{Density}
-
--- at most seven times count
-abbrev pub Held : Density → Type 0
-Held d = d.len ≤ 7
+use Rattle.density.specs.declared.times.Density.{Density}
 
 -- the first `len` of the array
 unfoldable pub queued : Density → Queue.Density

@@ -5,21 +5,16 @@ ghost use Rattle.std.specs.Prelude.{◌≡◌, ◌-◌, ◌≤◌, take};
 ghost use Rattle.mania.specs.LimitedQueue.{density_of, compute_density, unknown_density};
 ghost use Rattle.mania.specs.Convert as Convert;
 ghost use Rattle.mania.specs.Convert.{node_time};
-ghost use Rattle.density.specs.Queued.{Held, queued, pushed};
+ghost use Rattle.density.specs.Queued.{queued, pushed};
+
+pub mod times;
 
 use model::Object;
-
-// The first `len` of the times count, oldest first.
-#[derive(Clone, Copy)]
-pub struct Density {
-    pub times: [f64; 7],
-    pub len: u8,
-    pub value: f64,
-}
+pub use times::Density;
 
 // No time yet, and the density i32::MAX.
 pub fn new() -> Density
-    ensures { Held result × (queued result ≡ unknown_density) }
+    ensures { queued result ≡ unknown_density }
 {
     Density {
         times: [0.0; 7],
@@ -30,8 +25,7 @@ pub fn new() -> Density
 
 // One more time; the oldest of seven goes.
 fn push(d: Density, time: f64) -> Density
-    requires { Held d }
-    ensures { Held result × (queued result ≡ pushed time (queued d)) }
+    ensures { queued result ≡ pushed time (queued d) }
 {
     let len = d.len;
     let t = d.times;
@@ -55,7 +49,6 @@ fn push(d: Density, time: f64) -> Density
 
 // The time from the oldest to the newest over their number; one time alone changes nothing.
 fn density_of(d: Density) -> f64
-    requires { Held d }
     ensures { result ≡ density_of (take d.len d.times) d.value }
 {
     let len = d.len;
@@ -70,8 +63,7 @@ fn density_of(d: Density) -> f64
 
 // `compute_density`.
 pub fn compute_density(d: Density, time: f64) -> Density
-    requires { Held d }
-    ensures { Held result × (queued result ≡ compute_density time (queued d)) }
+    ensures { queued result ≡ compute_density time (queued d) }
 {
     let p = push(d, time);
     let value = density_of(p);
@@ -87,23 +79,13 @@ pub fn node_time(o: Object, length: u32, n: u32) -> f64
     o.start + (length as f64) * (n as f64)
 }
 
-// The index of the first of the last seven of `count` nodes.
-fn last_seven(count: u32) -> u32
-    ensures { result ≡ count - 7 }
-{
-    if count < 7 { 0 } else { count - 7 }
-}
-
 // After a slider's `count` nodes. The queue holds seven, so earlier nodes do not matter.
 pub fn nodes(d: Density, o: Object, length: u32, count: u32) -> Density
-    requires { Held d }
-    ensures { Held result × (queued result ≡ Convert.nodes o length count 0 (queued d)) }
+    ensures { queued result ≡ Convert.nodes o length count 0 (queued d) }
 {
     let mut r = d;
-    let mut n = last_seven(count);
-    while n < count {
+    for n in count.saturating_sub(7)..count {
         r = compute_density(r, node_time(o, length, n));
-        n += 1;
     }
     r
 }

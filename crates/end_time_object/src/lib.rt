@@ -4,22 +4,22 @@
 ghost use Rattle.std.specs.Prelude.{◌≡◌, ◌≤◌, ◌<◌, length, eqb, if◌then◌else◌};
 ghost use Rattle.std.specs.Int.Count.{ones};
 ghost use Rattle.random.specs.Play.{on};
+ghost use Rattle.random.specs.Answers.{number};
 ghost use Rattle.mania.specs.EndTimeObject as Rule;
-ghost use Rattle.pattern.specs.Answers.{number, Generates};
+ghost use Rattle.pattern.specs.Answers.{Generates};
 ghost use Rattle.end_time_object.specs.Answers.{end_note_at};
 
 use mania::{Note, PrevValues};
 use model::{Object, sound};
-use pattern::{Number, ObjectEnd, Pattern};
-use random::Draws;
-use rules::numbers;
+use pattern::{Made, Pattern};
+use random::{Draws, Outcome, Refused};
+use rules::Refusal;
 
 // How long the note lasts.
 fn lasting(o: Object, duration: f64) -> f64
     ensures { result ≡ Rule.lasting o duration }
 {
-    let start = o.start;
-    start + duration - start
+    o.start + duration - o.start
 }
 
 // The columns that the note must not take: the previous pattern's, unless they fill the deck.
@@ -34,37 +34,24 @@ fn barred(mask: u16, columns: u8) -> u16
 }
 
 // A drawn column, off the previous pattern.
-fn end_column(d: Draws, v: PrevValues, columns: u8) -> Number
+fn end_column(d: Draws, v: PrevValues, columns: u8) -> Outcome<u8>
     requires { (0 < columns) × (columns ≤ 9) }
     ensures { number result ≡ on (Rule.end_column v columns) d }
 {
-    let mask = v.mask;
-    let taken = barred(mask, columns);
+    let taken = barred(v.mask, columns);
     let low = pattern::random_start(columns);
-    match pattern::get_random_column(d, low, columns) {
-        Number::Given(c, drawn) => pattern::find_available_column(
-            drawn,
-            mania::Next::Draw,
-            columns,
-            c,
-            low,
-            columns,
-            taken,
-        ),
-        Number::Refused(n, next) => Number::Refused(n, next),
-    }
+    let (c, drawn) = pattern::get_random_column(d, low, columns)?;
+    pattern::find_available_column(drawn, mania::Next::Draw, columns, c, low, columns, taken)
 }
 
 // The note's column: of 8 columns the special one for a short finish.
-fn note_column(d: Draws, v: PrevValues, columns: u8, o: Object, lasts: f64) -> Number
+fn note_column(d: Draws, v: PrevValues, columns: u8, o: Object, lasts: f64) -> Outcome<u8>
     requires { (0 < columns) × (columns ≤ 9) }
     ensures { number result ≡ on (Rule.note_column v columns o lasts) d }
 {
-    let sound = o.sound;
-    let finish = sound::has_flag(sound, sound::FINISH);
-    let special = (columns == 8) & finish & (lasts < 1000.0);
-    if special {
-        return Number::Given(0, d);
+    let finish = sound::has_flag(o.sound, sound::FINISH);
+    if (columns == 8) & finish & (lasts < 1000.0) {
+        return Ok((0, d));
     }
     end_column(d, v, columns)
 }
@@ -73,19 +60,18 @@ fn note_column(d: Draws, v: PrevValues, columns: u8, o: Object, lasts: f64) -> N
 fn end_note(o: Object, lasts: f64, c: u8) -> Note
     ensures { result ≡ Rule.end_note o lasts c }
 {
-    let start = o.start;
     if 100.0 <= lasts {
         Note {
             column: c,
             hold: true,
-            start,
+            start: o.start,
             duration: lasts,
         }
     } else {
         Note {
             column: c,
             hold: false,
-            start,
+            start: o.start,
             duration: 0.0,
         }
     }
@@ -107,28 +93,29 @@ pub fn generate_by_value(
     o: Object,
     duration: f64,
     words: &mut [u64],
-) -> ObjectEnd
+) -> Outcome<Made>
     requires { (0 < columns) × (columns ≤ 9) × (0 < length words.old) }
     ensures { Generates (end_note_at o duration) words.new (on (Rule.generate v columns o duration) d) 1 result }
 {
     let lasts = lasting(o, duration);
-    let stair = v.stair;
-    match note_column(d, v, columns, o, lasts) {
-        Number::Given(c, next) => {
-            if columns <= c {
-                return ObjectEnd::Refused(numbers::OFF_DECK, next);
-            }
-            words[0] = c as u64;
-            ObjectEnd::Made(
-                Pattern {
-                    mask: v.mask,
-                    last: v.last,
-                    count: 1,
-                },
-                stair,
-                next,
-            )
-        }
-        Number::Refused(n, next) => ObjectEnd::Refused(n, next),
+    let (c, next) = note_column(d, v, columns, o, lasts)?;
+    if columns <= c {
+        return Err(Refused {
+            refusal: Refusal::OffDeck,
+            draws: next,
+        });
     }
+    words[0] = c as u64;
+    let pattern = Pattern {
+        mask: v.mask,
+        last: v.last,
+        count: 1,
+    };
+    Ok((
+        Made {
+            pattern,
+            stair: v.stair,
+        },
+        next,
+    ))
 }

@@ -28,7 +28,7 @@ passed false n r h e = absurd (omega arith)
 few_repeats : (k : Kind) → kind_fits k ≡ true → FewRepeats k
 unfolding kind_fits
 few_repeats Circle e = tt
-few_repeats (Slider repeats distance node) e = leb-true repeats most_repeats (three (leb repeats most_repeats) (distance_fits distance) (node_fits node) e).0
+few_repeats (Slider repeats distance sound) e = leb-true repeats most_repeats (three (leb repeats most_repeats) (distance_fits distance) (node_fits sound) e).0
 few_repeats (Spinner d) e = tt
 few_repeats (Hold d) e = tt
 

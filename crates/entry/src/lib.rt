@@ -3,21 +3,15 @@
 
 ghost use Rattle.std.specs.Prelude.{◌≡◌, ◌^◌, ◌≤◌};
 ghost use Rattle.mania.specs.Single.{pattern_fits, settings_fit, points_fit, position_fits, distance_fits, node_fits, kind_fits, object_fits, entry_refusal};
+ghost use Rattle.rules.specs.Coded.{refusal_code};
 ghost use Rattle.entry.specs.Parts.{last_fits};
 
 use mania::{Facts, PrevValues};
-use model::{Distance, Kind, NodeSound, Object, Position, limits};
-use rules::numbers;
-
-// 2^n.
-fn power(n: u8) -> u16
-    requires { n ≤ 15 }
-    ensures { result ≡ 2 ^ n }
-{
-    1u16 << n
-}
+use model::{Kind, Object, Position, limits};
+use rules::Refusal;
 
 // A last column of the mask, or 0 with an empty one.
+#[tactic(auto, unfolding(crate::specs::Parts::last_fits, mania::specs::Pattern::free))]
 fn last_fits(mask: u16, last: u8, columns: u8) -> bool
     requires { columns ≤ 9 }
     ensures { result ≡ last_fits mask last columns }
@@ -32,21 +26,20 @@ fn last_fits(mask: u16, last: u8, columns: u8) -> bool
 }
 
 // Columns 1 to 9, no mask bit beyond them, and the last column.
+#[tactic(auto, unfolding(mania::specs::Single::pattern_fits, crate::specs::Parts::last_fits))]
 fn pattern_fits(v: PrevValues, columns: u8) -> bool
     ensures { result ≡ pattern_fits v columns }
 {
-    let mask = v.mask;
-    let last = v.last;
     if columns < 1 {
         return false;
     }
     if 9 < columns {
         return false;
     }
-    if power(columns) <= mask {
+    if (1u16 << columns) <= v.mask {
         return false;
     }
-    last_fits(mask, last, columns)
+    last_fits(v.mask, v.last, columns)
 }
 
 // The multiplier, and a difficulty that is finite and not too high.
@@ -74,38 +67,25 @@ fn points_fit(f: Facts) -> bool
 fn position_fits(p: Position) -> bool
     ensures { result ≡ position_fits p }
 {
-    let a = floats::in_range_f32(p.x, limits::LEAST_COORDINATE, limits::MOST_COORDINATE);
-    let b = floats::in_range_f32(p.y, limits::LEAST_COORDINATE, limits::MOST_COORDINATE);
+    let a = floats::in_range(p.x, limits::LEAST_COORDINATE, limits::MOST_COORDINATE);
+    let b = floats::in_range(p.y, limits::LEAST_COORDINATE, limits::MOST_COORDINATE);
     a & b
 }
 
-pub fn distance_fits(d: Distance) -> bool
+pub fn distance_fits(d: Option<f64>) -> bool
     ensures { result ≡ distance_fits d }
 {
-    match d {
-        Distance::Missing => true,
-        Distance::Given(x) => floats::in_range(x, limits::LEAST_DISTANCE, limits::MOST_DISTANCE),
-    }
+    d.is_none_or(|x| floats::in_range(x, limits::LEAST_DISTANCE, limits::MOST_DISTANCE))
 }
 
-fn node_fits(n: NodeSound) -> bool
+#[tactic(auto, unfolding(mania::specs::Single::node_fits))]
+fn node_fits(n: Option<u8>) -> bool
     ensures { result ≡ node_fits n }
 {
-    match n {
-        NodeSound::Missing => true,
-        NodeSound::Given(s) => s < 16,
-    }
+    n.is_none_or(|s| s < 16)
 }
 
-// What a slider carries.
-fn slider_fits(repeats: u16, distance: Distance, node: NodeSound) -> bool
-    ensures { result ≡ kind_fits (Kind.Slider repeats distance node) }
-{
-    let a = distance_fits(distance);
-    let b = node_fits(node);
-    (repeats <= limits::MOST_REPEATS) & a & b
-}
-
+// What the kind carries.
 fn kind_fits(k: Kind) -> bool
     ensures { result ≡ kind_fits k }
 {
@@ -115,13 +95,10 @@ fn kind_fits(k: Kind) -> bool
             repeats,
             distance,
             node,
-        } => slider_fits(repeats, distance, node),
-        Kind::Spinner(duration) => floats::in_range(
-            duration,
-            limits::LEAST_SPAN,
-            limits::MOST_SPAN,
-        ),
-        Kind::Hold(duration) => floats::in_range(duration, limits::LEAST_SPAN, limits::MOST_SPAN),
+        } => (repeats <= limits::MOST_REPEATS) & distance_fits(distance) & node_fits(node),
+        Kind::Spinner(duration) | Kind::Hold(duration) => {
+            floats::in_range(duration, limits::LEAST_SPAN, limits::MOST_SPAN)
+        }
     }
 }
 
@@ -129,33 +106,32 @@ fn kind_fits(k: Kind) -> bool
 fn object_fits(f: Facts, v: PrevValues, o: Object) -> bool
     ensures { result ≡ object_fits f v o }
 {
-    let position = o.position;
-    let kind = o.kind;
-    let before = v.position;
-    let a = position_fits(position);
-    let b = floats::in_range(o.start, limits::LEAST_SPAN, limits::MOST_SPAN);
-    let c = kind_fits(kind);
-    let d = position_fits(before);
-    let e = floats::is_finite(v.time);
-    let g = floats::is_finite(f.density);
-    a & b & (o.sound < 16) & c & d & e & g
+    let start = floats::in_range(o.start, limits::LEAST_SPAN, limits::MOST_SPAN);
+    position_fits(o.position)
+        & start
+        & (o.sound < 16)
+        & kind_fits(o.kind)
+        & position_fits(v.position)
+        & floats::is_finite(v.time)
+        & floats::is_finite(f.density)
 }
 
-// The number of the first check that fails, 0 where none does.
-pub fn entry_refusal(f: Facts, v: PrevValues, columns: u8, o: Object) -> u8
-    ensures { result ≡ entry_refusal f v columns o }
+// The first check that fails.
+#[tactic(auto, unfolding(mania::specs::Single::entry_refusal))]
+pub fn entry_refusal(f: Facts, v: PrevValues, columns: u8, o: Object) -> Result<(), Refusal>
+    ensures { refusal_code result ≡ entry_refusal f v columns o }
 {
     if !pattern_fits(v, columns) {
-        return numbers::COLUMNS_OR_PREVIOUS;
+        return Err(Refusal::ColumnsOrPrevious);
     }
     if !settings_fit(f) {
-        return numbers::SETTING;
+        return Err(Refusal::Setting);
     }
     if !points_fit(f) {
-        return numbers::BREAK_OR_POINT;
+        return Err(Refusal::BreakOrPoint);
     }
     if !object_fits(f, v, o) {
-        return numbers::OBJECT;
+        return Err(Refusal::Object);
     }
-    0
+    Ok(())
 }

@@ -1,13 +1,11 @@
 -- Instants: a finite f64 as a whole number of 2 ^ -1074 ms, negative ones too. What covers an instant, and how far it is.
 -- Assumes nothing.
-use Rattle.std.specs.Prelude.{◌≡◌, Bool, true, cond, ◌&&◌, ℕ, ◌<◌, leb, ltb, ℤ, pos, neg_ℤ, nat_abs, ◌-ℤ◌, Float}
+use Rattle.std.specs.Prelude.{◌≡◌, Bool, true, cond, ◌&&◌, ℕ, ◌<◌, leb, ltb, ℤ, pos, neg_ℤ, nat_abs, ◌-ℤ◌, Float, Option, Some, None}
 use Rattle.std.specs.Int.Signed.{lt_z, le_z}
 use Rattle.std.specs.Float.{nan, inf, fin}
 use Rattle.floats.specs.Ticks.{ticks}
 use Rattle.chart.specs.Time.{time}
 use Rattle.floats.specs.Format.{infinity}
-use Rattle.exact_times.specs.declared.moments.Moment.{Moment}
-use Rattle.exact_times.specs.declared.moments.Moment.TheVariants.{At, Before}
 
 unfoldable pub instant : Float → ℤ
 instant nan = pos 0
@@ -27,9 +25,9 @@ unfoldable pub distance : ℕ → ℤ → ℕ
 distance s t = nat_abs (pos s -ℤ t)
 
 -- a finite f64 is the time of a bit pattern, or it is negative
-unfoldable pub Tells : Float → Moment → Type 0
-Tells t (At b) = (b < infinity) × (instant t ≡ pos (ticks (time b)))
-Tells t Before = lt_z (instant t) (pos 0) ≡ true
+unfoldable pub Tells : Float → Option ℕ → Type 0
+Tells t (Some b) = (b < infinity) × (instant t ≡ pos (ticks (time b)))
+Tells t None = lt_z (instant t) (pos 0) ≡ true
 
 -- bit patterns of times from r on are those at or after an instant
 unfoldable pub FirstAt : Float → ℕ → Type 0

@@ -8,37 +8,11 @@ ghost use Rattle.std.specs.Prelude.{◌≡◌, ◌+◌, ◌*◌, ◌^◌, ◌≤
 ghost use Rattle.floats.specs.Ticks.{ticks};
 ghost use Rattle.chart.specs.Time.{time};
 ghost use Rattle.floats.specs.Format.{infinity};
-ghost use Rattle.exact_times.specs.Compare.{order_of, is_less, is_greater};
+ghost use Rattle.exact_times.specs.Compare.{order_of};
 ghost use Rattle.exact_times.specs.Digits.{digits_of, power_of, Number};
 
 use floats::format::LEAD;
-
-#[derive(Clone, Copy)]
-pub enum Order {
-    Less,
-    Equal,
-    Greater,
-}
-
-pub fn is_less(o: Order) -> bool
-    ensures { result ≡ is_less o }
-{
-    match o {
-        Order::Less => true,
-        Order::Equal => false,
-        Order::Greater => false,
-    }
-}
-
-pub fn is_greater(o: Order) -> bool
-    ensures { result ≡ is_greater o }
-{
-    match o {
-        Order::Less => false,
-        Order::Equal => false,
-        Order::Greater => true,
-    }
-}
+use std::cmp::Ordering;
 
 // A time is digits * 2^power of the smallest times.
 fn digits(b: u64) -> u64
@@ -53,62 +27,46 @@ fn digits(b: u64) -> u64
 fn power(b: u64) -> u64
     ensures { result ≡ power_of b }
 {
-    let x = b / LEAD;
-    if x == 0 {
-        return 0;
-    }
-    x - 1
+    (b / LEAD).saturating_sub(1)
 }
 
 // n compared with rest * 2^shift.
-fn against(n: u64, rest: u64, shift: u64) -> Order
+fn against(n: u64, rest: u64, shift: u64) -> Ordering
     ensures { result ≡ order_of n (rest * 2 ^ shift) }
 {
     if rest == 0 {
-        if n == 0 {
-            return Order::Equal;
-        }
-        return Order::Greater;
+        return n.cmp(&0);
     }
     if shift > 63 {
-        return Order::Less;
+        return Ordering::Less;
     }
-    let q = n >> shift;
-    if q < rest {
-        return Order::Less;
-    }
-    if rest < q {
-        return Order::Greater;
-    }
-    if q << shift == n {
-        return Order::Equal;
-    }
-    Order::Greater
+    u128::from(n).cmp(&(u128::from(rest) << shift))
 }
 
 // The exact sum of two times, the later one first, compared with m * 2^e. Where the powers lie far apart they decide; else what is left
 // of m * 2^e beyond the later time is compared with the other.
-fn sum_with(a: u64, b: u64, m: u64, e: u64) -> Order
+fn sum_with(a: u64, b: u64, m: u64, e: u64) -> Ordering
     requires { (a < infinity) × (b ≤ a) × Number m e }
     ensures { result ≡ order_of (ticks (time a) + ticks (time b)) (m * 2 ^ e) }
 {
     let p = power(a);
     if e < p {
-        return Order::Greater;
+        return Ordering::Greater;
     }
     let k = e - p;
     if k > 1 {
-        return Order::Less;
+        return Ordering::Less;
     }
     let all = m << k;
     let first = digits(a);
     if all < first {
-        return Order::Greater;
+        return Ordering::Greater;
     }
     against(digits(b), all - first, p - power(b))
 }
 
-fn sum_to(a: u64, b: u64, m: u64, e: u64) -> Order
+// Not by `max` and `min`, which cost four instructions for each note of a chart that is read.
+fn sum_to(a: u64, b: u64, m: u64, e: u64) -> Ordering
     requires { (a < infinity) × (b < infinity) × Number m e }
     ensures { result ≡ order_of (ticks (time a) + ticks (time b)) (m * 2 ^ e) }
 {
@@ -119,15 +77,15 @@ fn sum_to(a: u64, b: u64, m: u64, e: u64) -> Order
 }
 
 // The exact sum of two times, compared with a third.
-pub fn sum_order(a: u64, b: u64, c: u64) -> Order
+pub fn sum_order(a: u64, b: u64, c: u64) -> Ordering
     requires { (a < infinity) × (b < infinity) × (c < infinity) }
     ensures { result ≡ order_of (ticks (time a) + ticks (time b)) (ticks (time c)) }
 {
     sum_to(a, b, digits(c), power(c))
 }
 
-// The exact sum of two times, compared with the double of a third.
-pub fn sum_order_twice(a: u64, b: u64, c: u64) -> Order
+// The exact sum of two times, compared with the double of a third. A function of its own: as one with the above it would take a power at each call.
+pub fn sum_order_twice(a: u64, b: u64, c: u64) -> Ordering
     requires { (a < infinity) × (b < infinity) × (c < infinity) }
     ensures { result ≡ order_of (ticks (time a) + ticks (time b)) (2 * ticks (time c)) }
 {

@@ -7,7 +7,7 @@ ghost use Rattle.chart.specs.Time.{time};
 ghost use Rattle.floats.specs.Format.{infinity};
 ghost use Rattle.exact_times.specs.Instants.{instant, covers_at, inside_at, distance, Tells, FirstAt, FirstAfter};
 
-use crate::{is_greater, is_less, sum_order, sum_order_twice};
+use crate::{sum_order, sum_order_twice};
 use floats::format::SIGN;
 
 // Whether a hold covers an instant, both ends included. Rounding keeps the order, so the exact sum is asked for only where the rounded one is t.
@@ -26,7 +26,7 @@ pub fn covers_at(start: u64, duration: u64, t: u64) -> bool
     if at < end {
         return true;
     }
-    !is_less(sum_order(start, duration, t))
+    sum_order(start, duration, t).is_ge()
 }
 
 // Whether an instant lies strictly inside a hold.
@@ -37,7 +37,7 @@ pub fn inside_at(start: u64, duration: u64, t: u64) -> bool
     if t <= start {
         return false;
     }
-    is_greater(sum_order(start, duration, t))
+    sum_order(start, duration, t).is_gt()
 }
 
 // Whether the second time is strictly nearer to an instant than the first.
@@ -49,33 +49,27 @@ pub fn nearer_at(first: u64, second: u64, t: u64) -> bool
         if t < first {
             return second < first;
         }
-        return is_less(sum_order_twice(first, second, t));
+        return sum_order_twice(first, second, t).is_lt();
     }
     if t < first {
-        return is_greater(sum_order_twice(first, second, t));
+        return sum_order_twice(first, second, t).is_gt();
     }
     first < second
 }
 
-// A finite f64: the bit pattern of a time from 0 on, or negative.
-#[derive(Clone, Copy)]
-pub enum Moment {
-    At(u64),
-    Before,
-}
-
-pub fn moment_of(t: f64) -> Moment
+// The bit pattern of a finite f64 from 0 on; of a negative one none.
+pub fn moment_of(t: f64) -> Option<u64>
     requires { finite t ≡ true }
     ensures { Tells t result }
 {
-    let b = floats::bits_f64(t);
+    let b = std::num::f64_to_bits_with_nan(t);
     if b < SIGN {
-        return Moment::At(b);
+        return Some(b);
     }
     if b == SIGN {
-        return Moment::At(0);
+        return Some(0);
     }
-    Moment::Before
+    None
 }
 
 // The first bit pattern of a time at or after an instant.
@@ -83,10 +77,7 @@ pub fn first_at(t: f64) -> u64
     requires { finite t ≡ true }
     ensures { FirstAt t result }
 {
-    match moment_of(t) {
-        Moment::At(b) => b,
-        Moment::Before => 0,
-    }
+    moment_of(t).unwrap_or(0)
 }
 
 // The first one of a time after it.
@@ -95,19 +86,19 @@ pub fn first_after(t: f64) -> u64
     ensures { FirstAfter t result }
 {
     match moment_of(t) {
-        Moment::At(b) => b + 1,
-        Moment::Before => 0,
+        Some(b) => b + 1,
+        None => 0,
     }
 }
 
-// The three tests for any finite f64.
+// The three tests for any finite f64. One function over the test would need a contract as long as the three.
 pub fn covers(start: u64, duration: u64, t: f64) -> bool
     requires { (start < infinity) × (duration < infinity) × (finite t ≡ true) }
     ensures { result ≡ covers_at (ticks (time start)) (ticks (time start) + ticks (time duration)) (instant t) }
 {
     match moment_of(t) {
-        Moment::At(b) => covers_at(start, duration, b),
-        Moment::Before => false,
+        Some(b) => covers_at(start, duration, b),
+        None => false,
     }
 }
 
@@ -116,8 +107,8 @@ pub fn strictly_inside(start: u64, duration: u64, t: f64) -> bool
     ensures { result ≡ inside_at (ticks (time start)) (ticks (time start) + ticks (time duration)) (instant t) }
 {
     match moment_of(t) {
-        Moment::At(b) => inside_at(start, duration, b),
-        Moment::Before => false,
+        Some(b) => inside_at(start, duration, b),
+        None => false,
     }
 }
 
@@ -126,7 +117,7 @@ pub fn nearer(first: u64, second: u64, t: f64) -> bool
     ensures { result ≡ ltb (distance (ticks (time second)) (instant t)) (distance (ticks (time first)) (instant t)) }
 {
     match moment_of(t) {
-        Moment::At(b) => nearer_at(first, second, b),
-        Moment::Before => second < first,
+        Some(b) => nearer_at(first, second, b),
+        None => second < first,
     }
 }

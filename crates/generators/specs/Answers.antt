@@ -1,11 +1,16 @@
 -- What a generator gives of a lent state. Assumes nothing.
+use Rattle.std.specs.Prelude.{Result, Ok, Err}
 use Rattle.random.specs.declared.Random.{Random}
-use Rattle.pattern.specs.declared.ObjectEnd.{ObjectEnd}
-use Rattle.pattern.specs.declared.ObjectEnd.TheVariants as E
-use Rattle.generators.specs.declared.LentEnd.{LentEnd}
-use Rattle.generators.specs.declared.LentEnd.TheVariants as L
+use Rattle.random.specs.declared.Tally.{Tally}
+use Rattle.random.specs.declared.Draws.{Draws}
+use Rattle.random.specs.declared.Refused.{Refused}
+use Rattle.pattern.specs.declared.Made.{Made}
+use Rattle.generators.specs.declared.LentRefused.{LentRefused}
+
+abbrev pub LentEnd : Type 0
+LentEnd = Result (Made × Tally) LentRefused
 
 -- with the state that it left
-abbrev pub whole : Random → LentEnd → ObjectEnd
-whole r (L.Made p s n) = E.Made p s (record { random = r; tally = n })
-whole r (L.Refused x n) = E.Refused x (record { random = r; tally = n })
+abbrev pub whole : Random → LentEnd → Result (Made × Draws) Refused
+whole r (Ok (m, n)) = Ok (m, record { random = r; tally = n })
+whole r (Err e) = Err (record { refusal = e.refusal; draws = record { random = r; tally = e.tally } })

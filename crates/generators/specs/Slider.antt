@@ -7,8 +7,7 @@ use Rattle.mania.specs.PathObject.{generate}
 use Rattle.pattern.specs.Answers.{Generates}
 use Rattle.slider_notes.specs.Words.{note_of_word}
 use Rattle.path_object.specs.Parts.{Ready}
-use Rattle.generators.specs.Answers.{whole}
-use Rattle.generators.specs.declared.LentEnd.{LentEnd}
+use Rattle.generators.specs.Answers.{LentEnd, whole}
 use Rattle.generators.specs.declared.slider.Ask.{Ask}
 
 -- what `generate` requires: room for an object's notes in `words` words, and the working space `spare`

@@ -5,8 +5,7 @@ use Rattle.random.specs.declared.Random.{Random}
 use Rattle.mania.specs.EndTimeObject.{generate}
 use Rattle.pattern.specs.Answers.{Generates}
 use Rattle.end_time_object.specs.Answers.{end_note_at}
-use Rattle.generators.specs.Answers.{whole}
-use Rattle.generators.specs.declared.LentEnd.{LentEnd}
+use Rattle.generators.specs.Answers.{LentEnd, whole}
 use Rattle.generators.specs.declared.spinner.Ask.{Ask}
 
 -- what `generate` asks, of n lent words

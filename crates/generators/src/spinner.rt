@@ -6,11 +6,11 @@ ghost use Rattle.pattern.specs.Answers.{Generates};
 ghost use Rattle.end_time_object.specs.Answers.{end_note_at};
 ghost use Rattle.generators.specs.Spinner.{Asks, Ends};
 
-use crate::{LentEnd, Turn};
+use crate::{Generator, Turn};
 use mania::PrevValues;
 use model::Object;
-use pattern::ObjectEnd;
-use random::{Draws, Random, Tally};
+use pattern::Made;
+use random::{Draws, Outcome, Random, Tally};
 
 // What the generator is asked: the tally of the draws, and what the note is made from.
 #[derive(Clone, Copy)]
@@ -22,39 +22,28 @@ pub struct Ask {
     pub duration: f64,
 }
 
-// The state and the answer apart.
-fn take_turn(random: Random, ask: Ask, words: &mut [u64], spare: &mut [u64]) -> Turn
-    requires { Asks ask (length words.old) }
-    ensures { Ends random ask words.new result.random result.end }
-{
-    let tally = ask.tally;
-    let d = Draws { random, tally };
-    let v = ask.v;
-    let o = ask.o;
-    let end = end_time_object::generate_by_value(d, v, ask.columns, o, ask.duration, words);
-    crate::turn_of(end)
+impl Generator for Ask {
+    ghost asks = { λ a n m. Asks a n };
+
+    ghost ends = { Ends };
+
+    fn take_turn(self, random: Random, words: &mut [u64], spare: &mut [u64]) -> Turn {
+        let d = Draws {
+            random,
+            tally: self.tally,
+        };
+        crate::turn_of(end_time_object::generate_by_value(
+            d,
+            self.v,
+            self.columns,
+            self.o,
+            self.duration,
+            words,
+        ))
+    }
 }
 
-// The state is lent, and altered there.
-pub fn generate(random: &mut Random, ask: Ask, words: &mut [u64], spare: &mut [u64]) -> LentEnd
-    requires { Asks ask (length words.old) }
-    ensures { Ends random.old ask words.new random.new result }
-{
-    let t = take_turn(*random, ask, words, spare);
-    *random = t.random;
-    t.end
-}
-
-// Lends its state to `generate`.
-fn lend(mut random: Random, ask: Ask, words: &mut [u64], spare: &mut [u64]) -> Turn
-    requires { Asks ask (length words.old) }
-    ensures { Ends random ask words.new result.random result.end }
-{
-    let end = generate(&mut random, ask, words, spare);
-    Turn { random, end }
-}
-
-// For whoever owns the state: it is lent to `generate`.
+// For whoever owns the state: it is lent. One for each generator, since the contract says what this one makes.
 pub fn generate_owned(
     d: Draws,
     v: PrevValues,
@@ -63,7 +52,7 @@ pub fn generate_owned(
     duration: f64,
     words: &mut [u64],
     spare: &mut [u64],
-) -> ObjectEnd
+) -> Outcome<Made>
     requires { (0 < columns) × (columns ≤ 9) × (0 < length words.old) }
     ensures { Generates (end_note_at o duration) words.new (on (Rule.generate v columns o duration) d) 1 result }
 {
@@ -75,7 +64,5 @@ pub fn generate_owned(
         o,
         duration,
     };
-    let random = d.random;
-    let t = lend(random, ask, words, spare);
-    crate::object_end(t)
+    crate::outcome(crate::lend(d.random, ask, words, spare))
 }

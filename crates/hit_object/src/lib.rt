@@ -1,48 +1,43 @@
 // pattern_generator/hit_object.rs: the generator of a circle's pattern. Its columns are written into a lent buffer, one word a note, in walk order.
 #![tactic(auto)]
 
-ghost use Rattle.std.specs.Prelude.{◌≡◌, ◌&&◌, ◌≤◌, ◌<◌, map, length, take};
+ghost use Rattle.std.specs.Prelude.{◌≡◌, ◌&&◌, ◌≤◌, ◌<◌, map, length};
 ghost use Rattle.random.specs.Play.{on};
-ghost use Rattle.mania.specs.PatternType.{contains, reverse, force_stack};
+ghost use Rattle.mania.specs.PatternType.{contains};
 ghost use Rattle.mania.specs.HitObject as Rule;
 ghost use Rattle.pattern.specs.Answers.{placed, AtMost, Generates};
 ghost use Rattle.circle_notes.specs.Answers.{circle_at};
 
 use mania::{Facts, HitObjectPatternGenerator, PrevValues, Stair};
 use model::Object;
-use pattern::{ObjectEnd, Placed};
-use random::Draws;
+use pattern::{Made, Pattern};
+use random::{Draws, Outcome};
 
 pub fn new(f: Facts, v: PrevValues, columns: u8, o: Object) -> HitObjectPatternGenerator
     ensures { result ≡ Rule.new f v columns o }
 {
-    let position = o.position;
-    let sound = o.sound;
-    let stair = v.stair;
     let by_time = hit_object_type::type_by_time(f, v, o);
-    let flags = hit_object_type::type_by_sound(columns, sound, by_time);
+    let flags = hit_object_type::type_by_sound(columns, o.sound, by_time);
     HitObjectPatternGenerator {
         columns,
-        x: position.x,
+        x: o.position.x,
         start: o.start,
-        sound,
+        sound: o.sound,
         difficulty: f.difficulty,
         mask: v.mask,
         last: v.last,
-        stair,
+        stair: v.stair,
         flags,
     }
 }
 
 // ---- the branches in their order
 
-// Whether the previous pattern is turned round.
-fn reverses(g: HitObjectPatternGenerator) -> bool
-    ensures { result ≡ (contains g.flags reverse && Rule.some g) }
+// Whether the previous pattern has notes, and the convert type names what is done with them.
+fn repeats(g: HitObjectPatternGenerator, bits: u16) -> bool
+    ensures { result ≡ (contains g.flags bits && Rule.some g) }
 {
-    let has = pattern::has_type(g.flags, pattern::REVERSE);
-    let mask = g.mask;
-    has & (mask != 0)
+    pattern::has_type(g.flags, bits) & (g.mask != 0)
 }
 
 // Whether its single note is turned round.
@@ -50,31 +45,17 @@ fn cycles(g: HitObjectPatternGenerator) -> bool
     ensures { result ≡ Rule.cycles g }
 {
     let has = pattern::has_type(g.flags, pattern::CYCLE);
-    let columns = g.columns;
-    let last = g.last;
-    let mask = g.mask;
-    let alone = pattern::column_count(mask) == 1;
-    let off_special = (columns != 8) | (last != 0);
-    let off_centre = (columns % 2 == 0) | (last != columns / 2);
+    let alone = pattern::column_count(g.mask) == 1;
+    let off_special = (g.columns != 8) | (g.last != 0);
+    let off_centre = (g.columns % 2 == 0) | (g.last != g.columns / 2);
     has & alone & off_special & off_centre
-}
-
-// Whether its notes are stacked on.
-fn stacks(g: HitObjectPatternGenerator) -> bool
-    ensures { result ≡ (contains g.flags force_stack && Rule.some g) }
-{
-    let has = pattern::has_type(g.flags, pattern::FORCE_STACK);
-    let mask = g.mask;
-    has & (mask != 0)
 }
 
 // Whether it is a single note that a stair goes on from.
 fn climbs(g: HitObjectPatternGenerator, stair: u16) -> bool
     ensures { result ≡ (Rule.alone g && contains g.flags stair) }
 {
-    let has = pattern::has_type(g.flags, stair);
-    let mask = g.mask;
-    (pattern::column_count(mask) == 1) & has
+    (pattern::column_count(g.mask) == 1) & pattern::has_type(g.flags, stair)
 }
 
 // The next column of a stair.
@@ -82,12 +63,11 @@ fn stair_column(g: HitObjectPatternGenerator) -> u8
     requires { (g.last < g.columns) × (g.columns ≤ 9) }
     ensures { result ≡ Rule.stair_column g }
 {
-    let columns = g.columns;
-    let last = g.last;
-    if last + 1 == columns {
-        return pattern::random_start(columns);
+    if g.last + 1 == g.columns {
+        pattern::random_start(g.columns)
+    } else {
+        g.last + 1
     }
-    last + 1
 }
 
 // The next column of a reverse stair; off the deck before column 0.
@@ -95,37 +75,30 @@ fn reverse_stair_column(g: HitObjectPatternGenerator) -> u8
     requires { (g.last < g.columns) × (g.columns ≤ 9) }
     ensures { result ≡ Rule.reverse_stair_column g }
 {
-    let columns = g.columns;
-    let last = g.last;
-    let low = pattern::random_start(columns);
-    if last == low {
-        return columns - 1;
+    if g.last == pattern::random_start(g.columns) {
+        g.columns - 1
+    } else {
+        g.last.wrapping_sub(1)
     }
-    if last == 0 {
-        return 255;
-    }
-    last - 1
 }
 
 // A circle's pattern.
-fn generate_core(d: Draws, g: HitObjectPatternGenerator, words: &mut [u64]) -> Placed
+fn generate_core(d: Draws, g: HitObjectPatternGenerator, words: &mut [u64]) -> Outcome<Pattern>
     requires { (0 < g.columns) × (g.columns ≤ 9) × (g.last < g.columns) × (16 ≤ length words.old) }
     ensures { (placed (circle_at g.start) words.new result ≡ on (Rule.generate_core g) d) × AtMost 14 result }
 {
-    let columns = g.columns;
-    if columns == 1 {
+    if g.columns == 1 {
         return circle_notes::new_note(d, g, 0, words);
     }
-    if reverses(g) {
-        return circle_notes::add_each(d, g, true, words);
+    if repeats(g, pattern::REVERSE) {
+        return circle_notes::reversed(d, g, words);
     }
     if cycles(g) {
-        let last = g.last;
-        let c = circle_notes::goal_of(g, true, last);
+        let c = circle_notes::image(g.columns, g.last);
         return circle_notes::new_note(d, g, c, words);
     }
-    if stacks(g) {
-        return circle_notes::add_each(d, g, false, words);
+    if repeats(g, pattern::FORCE_STACK) {
+        return circle_notes::stacked(d, g, words);
     }
     if climbs(g, pattern::STAIR) {
         let c = stair_column(g);
@@ -154,46 +127,33 @@ fn turned(g: HitObjectPatternGenerator, c: u8, s: Stair) -> Stair
     requires { 0 < g.columns }
     ensures { result ≡ Rule.turned g c s }
 {
-    let columns = g.columns;
-    let flags = g.flags;
-    let low = pattern::random_start(columns);
-    let down = pattern::has_type(flags, pattern::REVERSE_STAIR);
-    let up = pattern::has_type(flags, pattern::STAIR);
-    let at_start = down & (c == low);
-    if at_start {
-        return Stair::Up;
+    let low = pattern::random_start(g.columns);
+    let down = pattern::has_type(g.flags, pattern::REVERSE_STAIR);
+    let up = pattern::has_type(g.flags, pattern::STAIR);
+    if down & (c == low) {
+        Stair::Up
+    } else if up & (c == g.columns - 1) {
+        Stair::Reverse
+    } else {
+        s
     }
-    let at_end = up & (c == columns - 1);
-    if at_end {
-        return Stair::Reverse;
-    }
-    s
 }
 
-// The stair after all of a pattern's notes.
-fn stair_after(g: HitObjectPatternGenerator, count: usize, words: &[u64]) -> Stair
-    requires { (0 < g.columns) × (count ≤ length words.now) }
-    ensures { result ≡ Rule.stair_after g g.stair (map (circle_at g.start) (take count words.now)) }
+// The stair after all of a pattern's notes, one a word.
+fn stair_after(g: HitObjectPatternGenerator, notes: &[u64]) -> Stair
+    requires { 0 < g.columns }
+    ensures { result ≡ Rule.stair_after g g.stair (map (circle_at g.start) notes.now) }
 {
-    let mut s = g.stair;
-    let mut i = 0;
-    while i < count {
-        s = turned(g, pattern::column_of(words[i]), s);
-        i += 1;
-    }
-    s
+    notes
+        .iter()
+        .fold(g.stair, |s, w| turned(g, pattern::column_of(*w), s))
 }
 
-pub fn generate_by_value(d: Draws, g: HitObjectPatternGenerator, words: &mut [u64]) -> ObjectEnd
+pub fn generate_by_value(d: Draws, g: HitObjectPatternGenerator, words: &mut [u64]) -> Outcome<Made>
     requires { (0 < g.columns) × (g.columns ≤ 9) × (g.last < g.columns) × (16 ≤ length words.old) }
     ensures { Generates (circle_at g.start) words.new (on (Rule.generate g) d) 14 result }
 {
-    match generate_core(d, g, words) {
-        Placed::Notes(p, next) => {
-            let count = p.count;
-            let s = stair_after(g, count, words);
-            ObjectEnd::Made(p, s, next)
-        }
-        Placed::Refused(x, next) => ObjectEnd::Refused(x, next),
-    }
+    let (pattern, next) = generate_core(d, g, words)?;
+    let stair = stair_after(g, &words[..pattern.count]);
+    Ok((Made { pattern, stair }, next))
 }

@@ -1,6 +1,6 @@
 -- What a text of hit object lines is read as. Each part of a line is taken from the front of a list of bytes, and what follows it is handed on.
 -- Assumes nothing.
-use Rattle.std.specs.Prelude.{Bool, true, false, ◌&&◌, cond, List, [], ◌∷◌, ℕ, zero, suc, ◌+◌, ◌-◌, ◌*◌, ◌/◌, min, leb, ltb, eqb, pos, length, drop}
+use Rattle.std.specs.Prelude.{Bool, true, false, ◌&&◌, cond, List, [], ◌∷◌, ℕ, zero, suc, ◌+◌, ◌-◌, ◌*◌, ◌/◌, min, leb, ltb, eqb, pos, length, drop, None}
 use Rattle.std.proofs.Math.Option.{Option, none, some, bind, map}
 use Rattle.std.specs.Float.{binary64}
 use Rattle.std.specs.Float.Ieee.{to_bits, of_int}
@@ -8,7 +8,6 @@ use Rattle.rules.specs.Numbers as Numbers
 use Rattle.model.specs.Limits.{latest_end}
 use Rattle.chart.specs.Layout.{most_in_chart}
 use Rattle.chart.specs.declared.Version.TheVariants.{One}
-use Rattle.chart.specs.declared.Origin.TheVariants.{Untold}
 use Rattle.chart.specs.declared.Note.{Note}
 use Rattle.chart.specs.Chart.{encode}
 use Rattle.chart.specs.Order.{rank}
@@ -73,13 +72,13 @@ time_of ms = to_bits binary64 (of_int binary64 (pos ms))
 
 -- a hold ends after its start; a line does not tell the object that a note came from
 unfoldable pub note_of_line : ℕ → Line → Option Note
-note_of_line columns (circle x start) = some (record { column = column_of columns x; hold = false; origin = Untold; start = time_of start; duration = 0 })
+note_of_line columns (circle x start) = some (record { column = column_of columns x; hold = false; origin = None; start = time_of start; duration = 0 })
 note_of_line columns (hold x start end) =
-    cond (ltb start end) (some (record { column = column_of columns x; hold = true; origin = Untold; start = time_of start; duration = time_of (end - start) })) none
+    cond (ltb start end) (some (record { column = column_of columns x; hold = true; origin = None; start = time_of start; duration = time_of (end - start) })) none
 
 -- a note as its line tells it: without its object
 abbrev pub untold : Note → Note
-untold n = record { column = n.column; hold = n.hold; origin = Untold; start = n.start; duration = n.duration }
+untold n = record { column = n.column; hold = n.hold; origin = None; start = n.start; duration = n.duration }
 
 unfoldable pub note_on : ℕ → List ℕ → Option (Note × List ℕ)
 note_on columns s = bind (line s) (λ p. map (λ n. (n, p.1)) (note_of_line columns p.0))

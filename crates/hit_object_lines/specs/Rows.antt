@@ -1,11 +1,10 @@
 -- Worked examples, computed. Assumes nothing.
-use Rattle.std.specs.Prelude.{◌≡◌, refl, true, false, [], ◌∷◌}
+use Rattle.std.specs.Prelude.{◌≡◌, refl, true, false, [], ◌∷◌, None, Some}
 use Rattle.std.proofs.Math.Option.{none, some, bind}
 use Rattle.std.specs.Float.Ieee.{of_bits}
 use Rattle.rules.specs.Numbers as Numbers
 use Rattle.floats.specs.Ticks.{ticks}
 use Rattle.floats.specs.Whole.{above}
-use Rattle.chart.specs.declared.Origin.TheVariants.{Untold, Object}
 use Rattle.chart.specs.declared.Note.{Note}
 use Rattle.text.specs.Text.{ascii, digit, digits, places, decimal}
 use Rattle.hit_object_lines.specs.Lines.{circle, hold, y_part, circle_part, hold_part, end_part, head_text, line_text, millisecond, start_of, end_of, is_whole, all_whole, x_of, line_of, chart_lines, refused, stored, writing_notes}
@@ -13,7 +12,7 @@ use Rattle.hit_object_lines.specs.Reading.{is_digit, with_digit, digits_on, limi
 
 -- document 01's row: one hold in column 1 of 9 at 1000 for 300
 held : Note
-held = record { column = 1; hold = true; origin = Object 0; start = 0x408f_4000_0000_0000; duration = 0x4072_c000_0000_0000 }
+held = record { column = 1; hold = true; origin = Some 0; start = 0x408f_4000_0000_0000; duration = 0x4072_c000_0000_0000 }
 
 one_hold : chart_lines 9 (held ∷ []) ≡ ascii "57,192,1000,128,0,1300:0:0:0:0:\n"
 unfolding held chart_lines line_text line_of head_text y_part hold_part end_part x_of above start_of end_of millisecond ticks of_bits decimal places digits digit ascii
@@ -29,7 +28,7 @@ unfolding column_of
 columns_found = (refl, (refl, (refl, refl)))
 
 -- 1000.5: between two milliseconds
-between : writing_notes 9 (record { column = 1; hold = false; origin = Untold; start = 0x408f_4400_0000_0000; duration = 0 } ∷ []) [] ≡ (refused Numbers.not_whole, [])
+between : writing_notes 9 (record { column = 1; hold = false; origin = None; start = 0x408f_4400_0000_0000; duration = 0 } ∷ []) [] ≡ (refused Numbers.not_whole, [])
 unfolding writing_notes all_whole is_whole start_of end_of millisecond ticks of_bits
 between = refl
 

@@ -13,39 +13,23 @@ ghost use Rattle.hit_object_lines.specs.Laws.Notes.{Notes};
 
 use crate::lines::{line_size, put_line};
 use crate::times::is_whole;
-use chart::Answer;
 use chart_reader::{note_of, read};
-use rules::numbers;
+use rules::Refusal;
 
-// How many bytes were written, or the number of a refusal.
-#[derive(Clone, Copy)]
-pub enum Written {
-    Length(usize),
-    Refused(u8),
-}
-
-// The length of a chart's lines, if every time is a whole number of milliseconds.
-#[derive(Clone, Copy)]
-pub enum Size {
-    Bytes(usize),
-    NotWhole,
-}
-
-fn text_size(chart: &[u8], columns: u8, count: u32) -> Size
+// How many bytes a chart's lines have, if every time is a whole number of milliseconds.
+fn text_size(chart: &[u8], columns: u8, count: u32) -> Option<usize>
     requires { Notes columns count (notes_in chart.now) }
     ensures { size_told result ≡ size_of columns (notes_in chart.now) }
 {
     let mut size: usize = 0;
-    let mut i = 0;
-    while i < count {
+    for i in 0..count {
         let n = note_of(chart, i);
         if !is_whole(columns, n) {
-            return Size::NotWhole;
+            return None;
         }
         size += line_size(columns, n);
-        i += 1;
     }
-    Size::Bytes(size)
+    Some(size)
 }
 
 fn put_lines(chart: &[u8], columns: u8, count: u32, s: &mut [u8])
@@ -54,44 +38,31 @@ fn put_lines(chart: &[u8], columns: u8, count: u32, s: &mut [u8])
     ensures { s.new ≡ splice s.old 0 (chart_lines columns (notes_in chart.now)) }
 {
     let mut at = 0;
-    let mut i = 0;
-    while i < count {
+    for i in 0..count {
         let n = note_of(chart, i);
         at = put_line(s, at, columns, n);
-        i += 1;
     }
 }
 
 // Writes the lines of a chart that was read.
-fn write_notes(chart: &[u8], columns: u8, count: u32, text: &mut [u8]) -> Written
+fn write_notes(chart: &[u8], columns: u8, count: u32, text: &mut [u8]) -> Result<usize, Refusal>
     requires { Notes columns count (notes_in chart.now) }
     ensures result_value { told result ≡ (writing_notes columns (notes_in chart.now) text.old).0 }
     ensures text_after { text.new ≡ (writing_notes columns (notes_in chart.now) text.old).1 }
 {
-    match text_size(chart, columns, count) {
-        Size::Bytes(size) => {
-            if size > text.len() {
-                return Written::Refused(numbers::TEXT_TOO_SHORT);
-            }
-            put_lines(chart, columns, count, text);
-            Written::Length(size)
-        }
-        Size::NotWhole => Written::Refused(numbers::NOT_WHOLE),
+    let size = text_size(chart, columns, count).ok_or(Refusal::NotWhole)?;
+    if size > text.len() {
+        return Err(Refusal::TextTooShort);
     }
+    put_lines(chart, columns, count, text);
+    Ok(size)
 }
 
-// Writes the lines of a chart from the start of `text`. The bytes after them keep their values; on a refusal all do.
-pub fn write_lines(chart: &[u8], text: &mut [u8]) -> Written
+// Writes the lines of a chart from the start of `text`, and gives how many bytes they have. The bytes after them keep their values; on a refusal all do.
+pub fn write_lines(chart: &[u8], text: &mut [u8]) -> Result<usize, Refusal>
     ensures result_value { told result ≡ (writing chart.now text.old).0 }
     ensures text_after { text.new ≡ (writing chart.now text.old).1 }
 {
-    match read(chart) {
-        Answer::Chart {
-            version: _,
-            columns,
-            notes,
-            draws,
-        } => write_notes(chart, columns as u8, notes, text),
-        Answer::Refused => Written::Refused(numbers::BROKEN_CHART),
-    }
+    let header = read(chart)?;
+    write_notes(chart, header.columns as u8, header.notes, text)
 }

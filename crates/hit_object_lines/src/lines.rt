@@ -13,8 +13,7 @@ fn x_of(columns: u8, column: u8) -> u32
     requires { 0 < columns }
     ensures { result ≡ x_of columns column }
 {
-    let wide = columns as u32;
-    (column as u32 * 512 + (wide - 1)) / wide
+    (u32::from(column) * 512).div_ceil(u32::from(columns))
 }
 
 fn head_size(x: u32, start: u32) -> usize

@@ -39,8 +39,5 @@ pub fn is_whole(columns: u8, n: Note) -> bool
     requires { Standing columns n }
     ensures { result ≡ is_whole n }
 {
-    if !has_whole(n.start) {
-        return false;
-    }
-    has_whole(n.duration)
+    has_whole(n.start) && has_whole(n.duration)
 }

@@ -1,2 +1,3 @@
--- What survives writing and reading (`Claims`).
+-- What the loops keep (`Loops`), and what survives writing and reading (`Claims`).
+pub mod Loops
 pub mod Claims

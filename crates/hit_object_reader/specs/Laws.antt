@@ -5,3 +5,4 @@ pub mod Texts
 pub mod Back
 pub mod Wells
 pub mod Made
+pub mod Indices

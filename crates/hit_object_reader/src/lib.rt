@@ -2,7 +2,6 @@
 #![tactic(auto)]
 
 pub mod digits;
-pub mod parts;
 pub mod rows;
 
 ghost use Rattle.std.specs.Prelude.{◌≡◌, ◌≤◌, length};
@@ -15,51 +14,42 @@ ghost use Rattle.hit_object_lines.specs.Told.{told};
 ghost use Rattle.hit_object_lines.specs.Reading.{notes_on, notes_for, reading_of, reading};
 ghost use Rattle.hit_object_reader.specs.Told.{Columns, checked_told, count_of, lines_notes};
 
-use crate::rows::{Row, row_at};
+use crate::rows::note_on;
 use chart::layout::{HEADER_SIZE, MOST_IN_CHART, OLD_NOTE_SIZE};
 use chart::order::precedes;
-use chart::rows::put_old_note;
-use chart::{Note, Origin};
-use chart_writer::put_old_header;
-use hit_object_lines::Written;
-use rules::numbers;
+use chart::rows::put_note;
+use chart::{Note, Version};
+use chart_writer::put_header;
+use rules::Refusal;
 
-// The number of notes of a text that is taken.
-#[derive(Clone, Copy)]
-pub enum Checked {
-    Notes(u32),
-    Refused,
-}
-
-// Reads every line: whether it has its shape, and none comes before the one above it.
-fn check_lines(s: &[u8], columns: u8) -> Checked
+// Reads every line: how many there are, if each has its shape, and none comes before the one above it. By `while`, here and below: what is left of the
+// text tells when the lines end.
+fn check_lines(s: &[u8], columns: u8) -> Option<u32>
     requires { Columns columns }
     ensures { checked_told result ≡ count_of (notes_for columns s.now) }
 {
     let mut last = Note {
         column: 0,
         hold: false,
-        origin: Origin::Untold,
+        origin: None,
         start: 0,
         duration: 0,
     };
     let mut count: u32 = 0;
-    let mut at = 0;
-    while at < s.len() {
+    let mut rest = s;
+    while !rest.is_empty() {
         if count == MOST_IN_CHART {
-            return Checked::Refused;
+            return None;
         }
-        let Row::Note { note, next } = row_at(s, at, columns) else {
-            return Checked::Refused;
-        };
+        let (note, tail) = note_on(columns, rest)?;
         if precedes(note, last) {
-            return Checked::Refused;
+            return None;
         }
         last = note;
         count += 1;
-        at = next;
+        rest = tail;
     }
-    Checked::Notes(count)
+    Some(count)
 }
 
 // Stores the notes of lines that were checked behind a header.
@@ -68,47 +58,38 @@ fn put_notes(s: &[u8], columns: u8, chart: &mut [u8])
     requires room { chart_size_in One (length (lines_notes columns s.now)) ≤ length chart.old }
     ensures { chart.new ≡ splice chart.old 8 (body One (lines_notes columns s.now)) }
 {
-    let mut at = 0;
+    let mut rest = s;
     let mut i: usize = 0;
-    while at < s.len() {
-        let Row::Note { note, next } = row_at(s, at, columns) else {
-            return;
-        };
-        put_old_note(chart, HEADER_SIZE + OLD_NOTE_SIZE * i, note);
+    while let Some((note, tail)) = note_on(columns, rest) {
+        put_note(Version::One, chart, HEADER_SIZE + OLD_NOTE_SIZE * i, note);
         i += 1;
-        at = next;
+        rest = tail;
     }
 }
 
-fn read_with(s: &[u8], columns: u8, chart: &mut [u8]) -> Written
+fn read_with(s: &[u8], columns: u8, chart: &mut [u8]) -> Result<usize, Refusal>
     requires { Columns columns }
     ensures result_value { told result ≡ (reading s.now columns chart.old).0 }
     ensures chart_after { chart.new ≡ (reading s.now columns chart.old).1 }
 {
-    match check_lines(s, columns) {
-        Checked::Notes(count) => {
-            let size = HEADER_SIZE + OLD_NOTE_SIZE * (count as usize);
-            if size > chart.len() {
-                return Written::Refused(numbers::CHART_TOO_SHORT);
-            }
-            put_old_header(chart, columns, count, 0);
-            put_notes(s, columns, chart);
-            Written::Length(size)
-        }
-        Checked::Refused => Written::Refused(numbers::HIT_OBJECTS),
+    let count = check_lines(s, columns).ok_or(Refusal::HitObjects)?;
+    let size = HEADER_SIZE + OLD_NOTE_SIZE * count as usize;
+    if size > chart.len() {
+        return Err(Refusal::ChartTooShort);
     }
+    put_header(Version::One, chart, columns, count, 0);
+    put_notes(s, columns, chart);
+    Ok(size)
 }
 
-// Writes the chart of a text, version 1 with `columns` columns, from the start of `chart`. Later bytes keep their values; on a refusal all do.
-pub fn read_lines(s: &[u8], columns: u32, chart: &mut [u8]) -> Written
+// Writes the chart of a text, version 1 with `columns` columns, from the start of `chart`, and gives how many bytes it has. Later bytes keep their
+// values; on a refusal all do.
+pub fn read_lines(s: &[u8], columns: u32, chart: &mut [u8]) -> Result<usize, Refusal>
     ensures result_value { told result ≡ (reading s.now columns chart.old).0 }
     ensures chart_after { chart.new ≡ (reading s.now columns chart.old).1 }
 {
-    if columns < 1 {
-        return Written::Refused(numbers::HIT_OBJECTS);
-    }
-    if columns > 9 {
-        return Written::Refused(numbers::HIT_OBJECTS);
+    if columns < 1 || columns > 9 {
+        return Err(Refusal::HitObjects);
     }
     read_with(s, columns as u8, chart)
 }

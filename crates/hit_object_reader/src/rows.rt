@@ -1,106 +1,61 @@
 // A line, and its note.
-ghost use Rattle.std.specs.Prelude.{◌≡◌, true, ◌≤◌, ◌<◌, length, drop};
+ghost use Rattle.std.specs.Prelude.{◌≡◌, ◌≤◌, ◌<◌, length, IfSome, None};
 ghost use Rattle.model.specs.Limits.{latest_end};
-ghost use Rattle.hit_object_lines.specs.Lines.{y_part};
-ghost use Rattle.hit_object_lines.specs.Reading.{head, kind_on, hold_on, line, column_of, note_on, note_of_line};
-ghost use Rattle.hit_object_reader.specs.Told.{Columns, head_told, head_in, line_told, line_in, row_told, row_in};
+ghost use Rattle.hit_object_lines.specs.Reading.{head, hold_on, line, column_of, note_on, note_of_line};
+ghost use Rattle.chart.specs.Chart.{found};
+ghost use Rattle.hit_object_reader.specs.Told.{Columns, InTime, head_told, line_of, line_told, row_told};
 
-use crate::digits::{Number, number_at};
-use crate::parts::part_at;
-use chart::{Note, Origin};
+use crate::digits::number;
+use chart::Note;
 use hit_object_lines::times::time_of;
 
-// x and the start, and the index after them.
+// x, and the start in milliseconds.
 #[derive(Clone, Copy)]
-pub enum Head {
-    Of { x: u32, start: u32, next: usize },
-    Nothing,
+pub struct Head {
+    pub x: u32,
+    pub start: u32,
 }
 
-// What a line says, and the index after it.
+// What a line says.
 #[derive(Clone, Copy)]
 pub enum Line {
-    Circle {
-        x: u32,
-        start: u32,
-        next: usize,
-    },
-    Hold {
-        x: u32,
-        start: u32,
-        end: u32,
-        next: usize,
-    },
-    Nothing,
+    Circle(Head),
+    Hold(Head, u32),
 }
 
-// A line's note, and the index after it.
-#[derive(Clone, Copy)]
-pub enum Row {
-    Note { note: Note, next: usize },
-    Nothing,
-}
-
-fn head_at(s: &[u8], at: usize) -> Head
-    requires { at ≤ length s.now }
-    ensures result_value { head_told s.now result ≡ head (drop at s.now) }
-    ensures head_in { head_in (length s.now) at result }
+// What s begins with, and what follows it: here x and the start.
+fn head_on(s: &[u8]) -> Option<(Head, &[u8])>
+    ensures value { head_told result ≡ head s.now }
+    ensures bounds { IfSome result (λ p. (p.0.x ≤ latest_end) × (p.0.start ≤ latest_end) × (length p.1.now < length s.now)) }
 {
-    let Number::Of { value: x, next: y } = number_at(s, at) else {
-        return Head::Nothing;
-    };
-    if !part_at(s, y, b",192,") {
-        return Head::Nothing;
-    }
-    let Number::Of { value: start, next } = number_at(s, y + 5) else {
-        return Head::Nothing;
-    };
-    Head::Of { x, start, next }
+    let (x, y) = number(s)?;
+    let time = y.strip_prefix(b",192,")?;
+    let (start, rest) = number(time)?;
+    Some((Head { x, start }, rest))
 }
 
-fn hold_at(s: &[u8], at: usize, x: u32, start: u32) -> Line
-    requires { (at ≤ length s.now) × ((x ≤ latest_end) × (start ≤ latest_end)) }
-    ensures result_value { line_told s.now result ≡ hold_on x start (drop at s.now) }
-    ensures line_in { line_in (length s.now) at result }
+// The rest of a hold, from its type on.
+fn hold_on(head: Head, s: &[u8]) -> Option<(Line, &[u8])>
+    requires { (head.x ≤ latest_end) × (head.start ≤ latest_end) }
+    ensures value { line_told result ≡ hold_on head.x head.start s.now }
+    ensures bounds { IfSome result (λ p. InTime (line_of p.0) × (length p.1.now < length s.now)) }
 {
-    if !part_at(s, at, b",128,0,") {
-        return Line::Nothing;
-    }
-    let Number::Of {
-        value: end,
-        next: sample,
-    } = number_at(s, at + 7)
-    else {
-        return Line::Nothing;
-    };
-    if !part_at(s, sample, b":0:0:0:0:\n") {
-        return Line::Nothing;
-    }
-    Line::Hold {
-        x,
-        start,
-        end,
-        next: sample + 10,
-    }
+    let time = s.strip_prefix(b",128,0,")?;
+    let (end, sample) = number(time)?;
+    let rest = sample.strip_prefix(b":0:0:0:0:\n")?;
+    Some((Line::Hold(head, end), rest))
 }
 
-// The line that the bytes from `at` begin with.
-fn line_at(s: &[u8], at: usize) -> Line
-    requires { at ≤ length s.now }
-    ensures result_value { line_told s.now result ≡ line (drop at s.now) }
-    ensures line_in { line_in (length s.now) at result }
+// A line.
+fn line_on(s: &[u8]) -> Option<(Line, &[u8])>
+    ensures value { line_told result ≡ line s.now }
+    ensures bounds { IfSome result (λ p. InTime (line_of p.0) × (length p.1.now < length s.now)) }
 {
-    let Head::Of { x, start, next } = head_at(s, at) else {
-        return Line::Nothing;
-    };
-    if part_at(s, next, b",1,0,0:0:0:0:\n") {
-        return Line::Circle {
-            x,
-            start,
-            next: next + 14,
-        };
+    let (head, kind) = head_on(s)?;
+    match kind.strip_prefix(b",1,0,0:0:0:0:\n") {
+        Some(rest) => Some((Line::Circle(head), rest)),
+        None => hold_on(head, kind),
     }
-    hold_at(s, next, x, start)
 }
 
 // floor(x * columns / 512), at most the last.
@@ -108,49 +63,45 @@ fn column_of(columns: u8, x: u32) -> u8
     requires { Columns columns × (x ≤ latest_end) }
     ensures { (result ≡ column_of columns x) × (result < columns) }
 {
-    let wide = columns as u32;
-    let column = x * wide / 512;
-    if column >= wide {
-        return columns - 1;
-    }
-    column as u8
+    let wide = u32::from(columns);
+    (x * wide / 512).min(wide - 1) as u8
 }
 
-// The note of the line that the bytes from `at` begin with.
-pub fn row_at(s: &[u8], at: usize, columns: u8) -> Row
-    requires { Columns columns × (at ≤ length s.now) }
-    ensures result_value { row_told s.now result ≡ note_on columns (drop at s.now) }
-    ensures row_in { row_in (length s.now) at columns result }
+// A line's note; none where a hold does not last.
+fn note_of(columns: u8, line: Line) -> Option<Note>
+    requires { Columns columns × InTime (line_of line) }
+    ensures value { found result ≡ note_of_line columns (line_of line) }
+    ensures bounds { IfSome result (λ n. (n.column < columns) × (n.origin ≡ None)) }
 {
-    match line_at(s, at) {
-        Line::Circle { x, start, next } => {
-            let note = Note {
-                column: column_of(columns, x),
-                hold: false,
-                origin: Origin::Untold,
-                start: time_of(start),
-                duration: 0,
-            };
-            Row::Note { note, next }
-        }
-        Line::Hold {
-            x,
-            start,
-            end,
-            next,
-        } => {
-            if end <= start {
-                return Row::Nothing;
+    match line {
+        Line::Circle(head) => Some(Note {
+            column: column_of(columns, head.x),
+            hold: false,
+            origin: None,
+            start: time_of(head.start),
+            duration: 0,
+        }),
+        Line::Hold(head, end) => {
+            if end <= head.start {
+                return None;
             }
-            let note = Note {
-                column: column_of(columns, x),
+            Some(Note {
+                column: column_of(columns, head.x),
                 hold: true,
-                origin: Origin::Untold,
-                start: time_of(start),
-                duration: time_of(end - start),
-            };
-            Row::Note { note, next }
+                origin: None,
+                start: time_of(head.start),
+                duration: time_of(end - head.start),
+            })
         }
-        Line::Nothing => Row::Nothing,
     }
+}
+
+// The note of a line that s begins with, and what follows it.
+pub fn note_on(columns: u8, s: &[u8]) -> Option<(Note, &[u8])>
+    requires { Columns columns }
+    ensures value { row_told result ≡ note_on columns s.now }
+    ensures bounds { IfSome result (λ p. (p.0.column < columns) × (p.0.origin ≡ None) × (length p.1.now < length s.now)) }
+{
+    let (line, rest) = line_on(s)?;
+    Some((note_of(columns, line)?, rest))
 }

@@ -3,15 +3,14 @@
 
 ghost use Rattle.std.specs.Prelude.{◌≡◌, ◌<◌, if◌then◌else◌};
 ghost use Rattle.random.specs.Play.{on};
+ghost use Rattle.random.specs.Answers.{number};
 ghost use Rattle.mania.specs.Steps.{double};
 ghost use Rattle.mania.specs.PatternType.{stair_bit};
 ghost use Rattle.mania.specs.HitObject as Rule;
-ghost use Rattle.pattern.specs.Answers.{number};
 
 use mania::{CircleChances, Facts, HitObjectPatternGenerator, MirrorChances, PrevValues, Stair};
 use model::{Object, sound};
-use pattern::Number;
-use random::Draws;
+use random::{Draws, Outcome};
 
 // Whether an object is under 20 from the one before. Of the sums whose nearest root is 20 the smallest is 400 − 2^−15.
 fn near(v: PrevValues, o: Object) -> bool
@@ -38,17 +37,13 @@ pub fn type_by_time(f: Facts, v: PrevValues, o: Object) -> u16
     ensures { result ≡ Rule.type_by_time f v o }
 {
     let since = o.start - v.time;
-    let density = f.density;
     let dense = f.beat / 2.5;
-    let kiai = f.kiai;
-    let stair = v.stair;
-    let bit = stair_bit(stair);
     let close = near(v, o);
     if since <= 80.0 {
         return pattern::FORCE_NOT_STACK | pattern::KEEP_SINGLE;
     }
     if since <= 95.0 {
-        return pattern::FORCE_NOT_STACK | pattern::KEEP_SINGLE | bit;
+        return pattern::FORCE_NOT_STACK | pattern::KEEP_SINGLE | stair_bit(v.stair);
     }
     if since <= 105.0 {
         return pattern::FORCE_NOT_STACK | pattern::LOW_PROBABILITY;
@@ -56,22 +51,19 @@ pub fn type_by_time(f: Facts, v: PrevValues, o: Object) -> u16
     if since <= 125.0 {
         return pattern::FORCE_NOT_STACK;
     }
-    let fast = (since <= 135.0) & close;
-    if fast {
+    if (since <= 135.0) & close {
         return pattern::CYCLE | pattern::KEEP_SINGLE;
     }
-    let slower = (since <= 150.0) & close;
-    if slower {
+    if (since <= 150.0) & close {
         return pattern::FORCE_STACK | pattern::LOW_PROBABILITY;
     }
-    let stream = close & (dense <= density);
-    if stream {
+    if close & (dense <= f.density) {
         return pattern::REVERSE | pattern::LOW_PROBABILITY;
     }
-    if density < dense {
+    if f.density < dense {
         return 0;
     }
-    if kiai {
+    if f.kiai {
         return 0;
     }
     pattern::LOW_PROBABILITY
@@ -81,17 +73,13 @@ pub fn type_by_time(f: Facts, v: PrevValues, o: Object) -> u16
 pub fn type_by_sound(columns: u8, sound: u8, flags: u16) -> u16
     ensures { result ≡ Rule.type_by_sound columns sound flags }
 {
-    let single = pattern::has_type(flags, pattern::KEEP_SINGLE);
-    let finish = sound::has_flag(sound, sound::FINISH);
-    let clap = sound::has_flag(sound, sound::CLAP);
-    if single {
+    if pattern::has_type(flags, pattern::KEEP_SINGLE) {
         return flags;
     }
-    let mirrored = finish & (columns != 8);
-    if mirrored {
+    if sound::has_flag(sound, sound::FINISH) & (columns != 8) {
         return flags | pattern::MIRROR;
     }
-    if clap {
+    if sound::has_flag(sound, sound::CLAP) {
         return flags | pattern::GATHERED;
     }
     flags
@@ -99,7 +87,8 @@ pub fn type_by_sound(columns: u8, sound: u8, flags: u16) -> u16
 
 // ---- chances
 
-// The caps on 2 to 5 notes, by column count from 0 on. A cap of 1 caps nothing.
+// The caps on 2 to 5 notes, by column count from 0 on. A cap of 1 caps nothing. Four arrays, a line each: as one of `CircleChances` these figures take
+// sixty lines.
 const CAPS_2: [f64; 10] = [1.0, 1.0, 0.0, 0.1, 0.23, 1.0, 1.0, 1.0, 1.0, 1.0];
 
 const CAPS_3: [f64; 10] = [1.0, 1.0, 0.0, 0.0, 0.04, 0.15, 1.0, 1.0, 1.0, 1.0];
@@ -132,49 +121,34 @@ fn halved(p: f64, low: f64) -> f64
 pub fn mirrored_chances(columns: u8, m: MirrorChances) -> MirrorChances
     ensures { result ≡ Rule.mirrored_chances columns m }
 {
-    let centre = m.centre;
-    let p2 = m.p2;
-    let p3 = m.p3;
-    let small = floats::min(centre, 0.03);
-    if columns == 2 {
-        return MirrorChances {
+    match columns {
+        2 => MirrorChances {
             centre: 0.0,
             p2: 0.0,
             p3: 0.0,
-        };
-    }
-    if columns == 3 {
-        return MirrorChances {
-            centre: small,
+        },
+        3 => MirrorChances {
+            centre: floats::min(m.centre, 0.03),
             p2: 0.0,
             p3: 0.0,
-        };
-    }
-    if columns == 4 {
-        let q2 = halved(p2, 0.8);
-        return MirrorChances {
+        },
+        4 => MirrorChances {
             centre: 0.0,
-            p2: q2,
+            p2: halved(m.p2, 0.8),
             p3: 0.0,
-        };
-    }
-    if columns == 5 {
-        return MirrorChances {
-            centre: small,
-            p2,
+        },
+        5 => MirrorChances {
+            centre: floats::min(m.centre, 0.03),
+            p2: m.p2,
             p3: 0.0,
-        };
-    }
-    if columns == 6 {
-        let q2 = halved(p2, 0.05);
-        let q3 = halved(p3, 0.85);
-        return MirrorChances {
+        },
+        6 => MirrorChances {
             centre: 0.0,
-            p2: q2,
-            p3: q3,
-        };
+            p2: halved(m.p2, 0.05),
+            p3: halved(m.p3, 0.85),
+        },
+        _ => m,
     }
-    m
 }
 
 // The chances of a mirrored pattern, by the conversion difficulty.
@@ -264,27 +238,18 @@ pub fn chances_by(difficulty: f64, rare: bool) -> CircleChances
     }
 }
 
-// 1 where two notes are certain, else the chance.
-fn certain(clap: bool, p2: f64) -> f64
-    ensures { result ≡ (if clap then double 1 1 else p2) }
-{
-    if clap { 1.0 } else { p2 }
-}
-
 // A drawn count of notes: the caps first, and then a clap makes two notes certain.
 pub fn get_random_note_count(
     d: Draws,
     g: HitObjectPatternGenerator,
     chances: CircleChances,
-) -> Number
+) -> Outcome<u8>
     requires { g.columns < 10 }
     ensures { number result ≡ on (Rule.count_of g chances) d }
 {
-    let columns = g.columns;
-    let sound = g.sound;
-    let c = capped(columns, chances);
-    let clap = sound::has_flag(sound, sound::CLAP);
-    let p2 = certain(clap, c.p2);
+    let c = capped(g.columns, chances);
+    let clap = sound::has_flag(g.sound, sound::CLAP);
+    let p2 = if clap { 1.0 } else { c.p2 };
     pattern::get_random_note_count(d, p2, c.p3, c.p4, c.p5, 0.0)
 }
 
@@ -305,12 +270,10 @@ fn half(x: f64) -> f64
 pub fn unmirrored(m: MirrorChances) -> CircleChances
     ensures { result ≡ Rule.unmirrored m }
 {
-    let p2 = m.p2;
-    let p3 = m.p3;
     CircleChances {
-        p2: half(1.0) + half(p2),
-        p3: p2,
-        p4: half(p2 + p3),
-        p5: p3,
+        p2: half(1.0) + half(m.p2),
+        p3: m.p2,
+        p4: half(m.p2 + m.p3),
+        p5: m.p3,
     }
 }

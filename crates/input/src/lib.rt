@@ -15,6 +15,7 @@ pub fn read_full<R: Read>(from: &mut R, bytes: &mut [u8]) -> io::Result<usize>
     ensures taken { IfOk result (λ n. Consumes (R.remaining from.old) (R.remaining from.new) (take n bytes.new)) }
     ensures ended { IfOk result (λ n. n < length bytes.new → IsAtEnd (R.remaining from.new)) }
 {
+    // A loop of its own: `read_exact` refuses an input that is shorter than the buffer.
     let mut done = 0;
     while done < bytes.len() {
         let n = from.read(&mut bytes[done..])?;

@@ -1,4 +1,5 @@
 -- The ranges of an accepted song's floats, as fractions. Assumes nothing.
+use Rattle.std.specs.Prelude.{Option, Some, None}
 use mathlib.Core.Path.{◌≡◌, refl}
 use Prim.Native.Nat.{ℕ, ◌^◌, ◌≤◌}
 use native.Mathlib.Omega.{arith}
@@ -13,8 +14,6 @@ use Rattle.floats.specs.Laws.Values.{Sized, sized}
 use Rattle.floats.specs.Laws.Spans.{AtLeast, up_to, at_least}
 use Rattle.model.specs.declared.TimingPoint.{TimingPoint}
 use Rattle.model.specs.declared.DifficultyPoint.{DifficultyPoint}
-use Rattle.model.specs.declared.Distance.{Distance}
-use Rattle.model.specs.declared.Distance.TheVariants.{Missing, Given}
 use Rattle.model.specs.declared.Kind.{Kind}
 use Rattle.model.specs.declared.Kind.TheVariants.{Circle, Slider, Spinner, Hold}
 use Rattle.model.specs.declared.Object.{Object}
@@ -29,13 +28,13 @@ use Rattle.mania.specs.Range.{FewRepeats, InRange}
 use Rattle.mania.specs.Demand.{Each}
 use Rattle.job.proofs.Times.{Span}
 
-abbrev pub FitDistance : Distance → Type 0
-FitDistance Missing = Unit {0}
-FitDistance (Given d) = Span longest_distance d
+abbrev pub FitDistance : Option Float → Type 0
+FitDistance None = Unit {0}
+FitDistance (Some d) = Span longest_distance d
 
 abbrev pub FitKind : Kind → Type 0
 FitKind Circle = Unit {0}
-FitKind (Slider repeats distance node) = (repeats ≤ most_repeats) × FitDistance distance
+FitKind (Slider repeats distance sound) = (repeats ≤ most_repeats) × FitDistance distance
 FitKind (Spinner d) = Span latest_start d
 FitKind (Hold d) = Span latest_start d
 
@@ -72,13 +71,13 @@ multiplier_most = (refl, refl)
 
 -- ---- the song
 
-fit_distance : (d : Distance) → Fit.FitDistance d → FitDistance d
-fit_distance Missing h = tt
-fit_distance (Given d) h = from_to _ longest_distance d (lit≤ tt) (lit≤ tt) h
+fit_distance : (d : Option Float) → Fit.FitDistance d → FitDistance d
+fit_distance None h = tt
+fit_distance (Some d) h = from_to _ longest_distance d (lit≤ tt) (lit≤ tt) h
 
 fit_kind : (k : Kind) → Fit.FitKind k → FitKind k
 fit_kind Circle h = tt
-fit_kind (Slider repeats distance node) h = (omega (arith, h.0), fit_distance distance h.1)
+fit_kind (Slider repeats distance sound) h = (omega (arith, h.0), fit_distance distance h.1)
 fit_kind (Spinner d) h = from_to _ latest_start d (lit≤ tt) (lit≤ tt) h
 fit_kind (Hold d) h = from_to _ latest_start d (lit≤ tt) (lit≤ tt) h
 
@@ -103,7 +102,7 @@ fit_song s g e =
 
 few_repeats : (k : Kind) → FitKind k → FewRepeats k
 few_repeats Circle h = tt
-few_repeats (Slider repeats distance node) h = h.0
+few_repeats (Slider repeats distance sound) h = h.0
 few_repeats (Spinner d) h = tt
 few_repeats (Hold d) h = tt
 

@@ -59,7 +59,7 @@ kind_fine : (columns : ℕ) (s : Song) (d : Density) (o : Object) (k : Kind) →
     → Fine (Okay columns) (facts_at (song_facts s) d o) columns o k
 unfolding facts_at song_facts
 kind_fine columns s d o Circle fit h g = circle_notes columns o.start h
-kind_fine columns s d o (Slider repeats distance node) fit h g =
+kind_fine columns s d o (Slider repeats distance sound) fit h g =
     let later = not_before (facts_at (song_facts s) d o) o (repeats + 1) distance (spans repeats g.0) g.1 (velocity_at_law s.difficulty_points o.start fit.velocities)
     (beat_at_law s.timing_points o.start fit.beats) fit.multiplier in (
       λ c t e on l m late. bar_notes columns c t e on l (le_trans m late),

@@ -1,5 +1,5 @@
 -- The facts in force at a slider of an accepted record lie in document 01's ranges, so it does not end before its rounded start. Assumes nothing.
-use Rattle.std.specs.Prelude.{if◌then◌else◌}
+use Rattle.std.specs.Prelude.{if◌then◌else◌, Option, Some, None}
 use mathlib.Core.Path.{refl}
 use Prim.Native.Nat.{ℕ, ◌≤◌}
 use mathlib.Core.Bool.{Bool, true, false}
@@ -13,8 +13,6 @@ use Rattle.floats.specs.Laws.Spans.{AtLeast}
 use Rattle.mania.specs.declared.Facts.{Facts}
 use Rattle.model.specs.declared.TimingPoint.{TimingPoint}
 use Rattle.model.specs.declared.DifficultyPoint.{DifficultyPoint}
-use Rattle.model.specs.declared.Distance.{Distance}
-use Rattle.model.specs.declared.Distance.TheVariants as D
 use Rattle.model.specs.declared.Object.{Object}
 use Rattle.mania.specs.Steps.{double}
 use Rattle.model.specs.ControlPoint.{beat_from, beat_at, velocity_from, velocity_at}
@@ -60,11 +58,11 @@ velocity_at_law ps time k = velocity_from_law (double 1 1) ps time one_least k
 
 -- ---- the end
 
-distance_upto : (d : Distance) → FitDistance d → UpTo longest_distance (distance_of d)
+distance_upto : (d : Option Float) → FitDistance d → UpTo longest_distance (distance_of d)
 unfolding distance_of
-distance_upto D.Missing h = whole_upto binary64 0 longest_distance (lit≤ tt) (lit≤ tt)
-distance_upto (D.Given d) h = h.range
+distance_upto None h = whole_upto binary64 0 longest_distance (lit≤ tt) (lit≤ tt)
+distance_upto (Some d) h = h.range
 
-pub not_before : (f : Facts) (o : Object) (spans : ℕ) (distance : Distance) → spans ≤ most_spans → FitDistance distance → AtLeast 10 f.velocity → Span longest_beat f.beat → AtLeast 3 f.multiplier
+pub not_before : (f : Facts) (o : Object) (spans : ℕ) (distance : Option Float) → spans ≤ most_spans → FitDistance distance → AtLeast 10 f.velocity → Span longest_beat f.beat → AtLeast 3 f.multiplier
     → start_time o ≤ end_time f o spans distance
 not_before f o spans distance n d v b m = Times.not_before f o spans distance n (distance_upto distance d) v b.range m

@@ -2,6 +2,8 @@
 #![tactic(auto)]
 
 ghost use Rattle.std.specs.Prelude.{◌≡◌, ◌≤◌};
+ghost use Rattle.rules.specs.Coded.{refusal_code};
+ghost use Rattle.record.specs.Post.{coded};
 ghost use Rattle.record.specs.Header.{SmallCounts};
 ghost use Rattle.record.specs.Object.{objects};
 ghost use Rattle.record.specs.Record.{lists_refusal, fill_refusal, parse, checked_of};
@@ -9,36 +11,35 @@ ghost use Rattle.model.specs.Totals.{first_start};
 
 use bits::read_bits;
 use record::header::{Counts, counts_of, header_refusal, keys_of, places_of, settings_of};
-use record::objects::Scan;
-use record::refusal::{f64_at, first, refuse};
-use record::section::{Section, section_refusal};
-use record::{Checked, Summary, layout};
+use record::objects::Scanned;
+use record::refusal::{f64_at, refuse};
+use record::section::Section;
+use record::{Summary, layout};
 use record_object::scan_objects;
-use rules::numbers;
+use rules::Refusal;
 
 // Breaks and points.
-fn lists_refusal(s: &[u8], n: Counts) -> u8
+#[tactic(auto, using(record::specs::Laws::Row::row_stop, record::specs::Laws::Row::row_next), unfolding(record::specs::Record::lists_refusal))]
+fn lists_refusal(s: &[u8], n: Counts) -> Result<(), Refusal>
     requires { SmallCounts n }
-    ensures { result ≡ lists_refusal s.now n }
+    ensures { refusal_code result ≡ lists_refusal s.now n }
 {
     let at = places_of(n);
-    let breaks = section_refusal(Section::Breaks, s, layout::BREAKS, n.breaks);
-    let timing = section_refusal(Section::TimingPoints, s, at.timing, n.timing);
-    let difficulty = section_refusal(Section::DifficultyPoints, s, at.difficulty, n.difficulty);
-    let effect = section_refusal(Section::EffectPoints, s, at.effect, n.effect);
-    first(breaks, first(timing, first(difficulty, effect)))
+    Section::Breaks.refusal(s, layout::BREAKS, n.breaks)?;
+    Section::TimingPoints.refusal(s, at.timing, n.timing)?;
+    Section::DifficultyPoints.refusal(s, at.difficulty, n.difficulty)?;
+    Section::EffectPoints.refusal(s, at.effect, n.effect)
 }
 
 // The bits from bit `at` to the end of its byte, and what follows.
-fn fill_refusal(s: &[u8], at: usize) -> u8
+#[tactic(auto, unfolding(record::specs::Record::fill_refusal))]
+fn fill_refusal(s: &[u8], at: usize) -> Result<(), Refusal>
     requires { at ≤ 1000000000 }
-    ensures { result ≡ fill_refusal s.now at }
+    ensures { refusal_code result ≡ fill_refusal s.now at }
 {
     let bytes = (at + 7) / 8;
-    if read_bits(s, at, 8 * bytes - at) != 0 {
-        return numbers::FILLING;
-    }
-    refuse(bytes < s.len(), numbers::FILLING)
+    let filled = read_bits(s, at, 8 * bytes - at) == 0;
+    refuse(!filled || bytes < s.len(), Refusal::Filling)
 }
 
 // The first of `count` objects from bit `at` on: its start, 0 without objects.
@@ -53,36 +54,27 @@ fn first_start(s: &[u8], at: usize, count: usize) -> f64
 }
 
 // Every condition of a record, in record order; what it is, where none applies.
-pub fn check_record(s: &[u8]) -> Checked
-    ensures { result ≡ checked_of (parse s.now) }
+pub fn check_record(s: &[u8]) -> Result<Summary, Refusal>
+    ensures { coded result ≡ checked_of (parse s.now) }
 {
     let counts = counts_of(s);
     let places = places_of(counts);
-    let before = first(header_refusal(s), lists_refusal(s, counts));
-    if before != 0 {
-        return Checked::Refused(before);
-    }
+    header_refusal(s)?;
+    lists_refusal(s, counts)?;
     let at = places.objects;
     let count = counts.objects;
-    match scan_objects(s, at, count) {
-        Scan::Refused(n) => Checked::Refused(n),
-        Scan::Scanned { end, last, long } => {
-            let fill = fill_refusal(s, end);
-            if fill != 0 {
-                return Checked::Refused(fill);
-            }
-            let keys = keys_of(s);
-            let settings = settings_of(s);
-            let first = first_start(s, at, count);
-            Checked::Accepted(Summary {
-                keys,
-                settings,
-                counts,
-                places,
-                first,
-                last,
-                long,
-            })
-        }
-    }
+    let Scanned { end, last, long } = scan_objects(s, at, count)?;
+    fill_refusal(s, end)?;
+    let keys = keys_of(s);
+    let settings = settings_of(s);
+    let first = first_start(s, at, count);
+    Ok(Summary {
+        keys,
+        settings,
+        counts,
+        places,
+        first,
+        last,
+        long,
+    })
 }

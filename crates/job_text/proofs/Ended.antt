@@ -6,12 +6,12 @@ use mathlib.Core.List.{List}
 use lib.ListN.{length}
 use borrow.Author.Tests.{le-leb, lt-leb}
 use Rattle.chart.specs.Bytes.{splice}
+use Rattle.chart.specs.Laws.Notes.{length_encode}
 use Rattle.mania.specs.Job.{Job}
 use Rattle.job.specs.Job.{job}
 use Rattle.job.proofs.Read.{reads}
-use Rattle.convert.specs.Ends.{job_end}
-use Rattle.convert.specs.declared.JobEnd.{JobEnd}
-use Rattle.convert.specs.declared.JobEnd.TheVariants as J
+use Rattle.std.specs.Prelude.{Ok}
+use Rattle.convert.specs.Ends.{JobEnd, job_end}
 use Rattle.text.specs.Text.{ascii}
 use Rattle.job_text.specs.Limits.{longest_record, allowance}
 use Rattle.job_text.specs.Printed.{zeros, job_by, printed_by}
@@ -35,8 +35,14 @@ module _ (bytes buffer made : List ℕ) (a : ℕ) (r s : JobEnd) (e : job_end ma
   ended_text show n before after p = subst (λ (j : Job). (n ≡ length (job_by show j)) × (after ≡ splice before 0 (job_by show j))) ended p
 
 -- a chart is no longer than the buffer
-pub chart_fits : (bytes buffer made : List ℕ) (a n g : ℕ) (r : JobEnd) → job_end made r ≡ job bytes buffer a → r ≡ J.Chart n g → n ≤ length made
+pub chart_fits : (bytes buffer made : List ℕ) (a n g : ℕ) (r : JobEnd) → job_end made r ≡ job bytes buffer a → r ≡ Ok (record { length = n; longest = g }) → n ≤ length made
 chart_fits bytes buffer made a n g r e h =
-    let q = ended bytes buffer made a r (J.Chart n g) e h in
+    let q = ended bytes buffer made a r (Ok (record { length = n; longest = g })) e h in
     let room = (reads bytes buffer).room a n g (ap (λ (j : Job). j.answer) (sym q)) in
     omega (arith, room.0, room.1, ap (λ (j : Job). length j.chart) q)
+
+-- it has a header
+pub chart_long : (bytes buffer made : List ℕ) (a n g : ℕ) (r : JobEnd) → job_end made r ≡ job bytes buffer a → r ≡ Ok (record { length = n; longest = g }) → 8 ≤ n
+chart_long bytes buffer made a n g r e h =
+    let q = ended bytes buffer made a r (Ok (record { length = n; longest = g })) e h in
+    omega (arith, rw length_encode at ((reads bytes buffer).long a n g (ap (λ (j : Job). j.answer) (sym q))))

@@ -5,12 +5,16 @@ use mathlib.Core.Option.{Option, none, some}
 use Prim.Native.Nat.{ℕ, ◌≤◌}
 use native.Mathlib.Omega.{arith}
 use lib.ListN.{length}
+use Rattle.std.specs.Prelude.{Result, Ok, Err}
+use Rattle.std.specs.Result.{result_unwrap_or}
+use Rattle.rules.specs.Coded.{code}
+use Rattle.rules.specs.declared.Refusal.{Refusal}
 use borrow.Author.Tests.{le-leb}
 use Rattle.chart.specs.Bytes.{Bytes, splice}
 use Rattle.chart.specs.Laws.Bytes.{splice_none}
 use Rattle.chart.specs.Chart.{Score, decode}
 use Rattle.chart.specs.Laws.Reader.{notes_room}
-use Rattle.sheet.specs.Sheet.{Outcome, refused, written, sheet, given, putting, sheeted}
+use Rattle.sheet.specs.Sheet.{Outcome, refused, written, told, sheet, given, putting, sheeted}
 use Rattle.sheet.proofs.Claims.{claims}
 use Rattle.job_text.specs.Limits.{chart_bytes, sheet_bytes}
 use Rattle.job_text.specs.Printed.{sheet_read, sheet_text}
@@ -49,3 +53,9 @@ module _ (s buffer after : List ℕ) (bytes : Bytes s) (short : length s ≤ cha
   pub put_refused : (k : ℕ) → (refused k, after) ≡ sheeted s buffer → (0 ≡ length (sheet_text s)) × (after ≡ splice buffer 0 (sheet_text s))
   unfolding sheeted
   put_refused k h = refused_by_law k (decode s) refl h
+
+  -- what is shown for the answer: its length, and none for a refusal
+  pub put_answer : (r : Result ℕ Refusal) → (told r, after) ≡ sheeted s buffer
+      → (result_unwrap_or r 0 ≡ length (sheet_text s)) × ((result_unwrap_or r 0 ≤ length buffer) × (after ≡ splice buffer 0 (sheet_text s)))
+  put_answer (Ok n) h = put_length n h
+  put_answer (Err r) h = let is = put_refused (code r) h in (is.0, (omega arith, is.1))

@@ -136,7 +136,7 @@ said (refused x e) = x
 late_kind : (f : Facts) (v : PrevValues) (columns : ℕ) (o : Object) (k : Kind) → Late f o k → (d : Draws) → on (by_kind f v columns o k) d ≡ refused 8 d
 unfolding Late by_kind PathObject.new PathObject.generate play
 late_kind f v columns o Circle l d = absurd l
-late_kind f v columns o (Slider repeats distance node) l d = rw (lt-ltb PathObject.latest (PathObject.end_time f o (repeats + 1) distance) l)
+late_kind f v columns o (Slider repeats distance sound) l d = rw (lt-ltb PathObject.latest (PathObject.end_time f o (repeats + 1) distance) l)
 late_kind f v columns o (Spinner duration) l d = absurd l
 late_kind f v columns o (Hold duration) l d = absurd l
 
@@ -155,11 +155,11 @@ module _ (f : Facts) (v : PrevValues) (columns : ℕ) (o : Object) (some : 1 ≤
       both
       (circle_ends (Condition f v columns o Circle) tt (HitObject.new f v columns o) some deck last (λ e l a s. (e, l, eqb-true (ones v.mask) 1 a, s)))
       (Makes.less (circle_makes (HitObject.new f v columns o) some) (λ m h. (h.0, h.1)))
-  kind_ends (Slider repeats distance node) =
+  kind_ends (Slider repeats distance sound) =
       both
-      (slider_ends (Condition f v columns o (Slider repeats distance node)) tt (PathObject.new f v columns o repeats distance node) some mask
+      (slider_ends (Condition f v columns o (Slider repeats distance sound)) tt (PathObject.new f v columns o repeats distance sound) some mask
       (λ b. (blocked_8 v.mask columns mask b, mask_254 v.mask columns mask b)) (λ l. l))
-      (slider_makes (PathObject.new f v columns o repeats distance node) some)
+      (slider_makes (PathObject.new f v columns o repeats distance sound) some)
   kind_ends (Spinner duration) =
       both (end_ends (Condition f v columns o (Spinner duration)) tt v columns o duration some (λ b. (blocked_8 v.mask columns mask b, mask_254 v.mask columns mask b))) (end_left duration)
   kind_ends (Hold duration) =

@@ -286,8 +286,8 @@ module _ (columns : ℕ) (some : 1 ≤ columns) (deck : columns ≤ 9) where
   pub kind_few : (f : Facts) (v : PrevValues) (o : Object) (k : Kind) → FewRepeats k → Makes (λ made. length made.notes ≤ most_notes) (by_kind f v columns o k)
   unfolding by_kind PathObject.new PathObject.span_length
   kind_few f v o Circle h = circle_few f v o
-  kind_few f v o (Slider repeats distance node) h =
-      slider_few (PathObject.new f v columns o repeats distance node) deck (more repeats h)
+  kind_few f v o (Slider repeats distance sound) h =
+      slider_few (PathObject.new f v columns o repeats distance sound) deck (more repeats h)
       (λ l. spans_fit (PathObject.start_time o) (PathObject.end_time f o (repeats + 1) distance) (repeats + 1) (some_spans repeats) l)
     where
       more : (n : ℕ) → n ≤ most_repeats → n + 1 ≤ most_spans

@@ -52,7 +52,7 @@ some_spans n = omega arith
 -- Of the notes that can come from an object, P holds: a circle at its start, a note that ends with it, or the note of a bar that a slider can make.
 abbrev pub Fine : (Note → Type 0) → Facts → ℕ → Object → Kind → Type 0
 Fine P f columns o Circle = (c : ℕ) → c < columns → P (circle c o.start)
-Fine P f columns o (Slider repeats distance node) =
+Fine P f columns o (Slider repeats distance sound) =
     ((c t e : ℕ) → c < columns → t ≤ e → e ≤ PathObject.end_time f o (repeats + 1) distance → PathObject.end_time f o (repeats + 1) distance ≤ PathObject.latest
     → P (PathObject.note_of (record { column = c; start = t; end = e })))
     × ((c : ℕ) → c < columns → PathObject.end_time f o (repeats + 1) distance ≤ PathObject.latest
@@ -70,8 +70,8 @@ module _ (P : Note → Type 0) (columns : ℕ) (t : 1 ≤ columns) where
   kind_notes : (f : Facts) (v : PrevValues) (o : Object) (k : Kind) → Fine P f columns o k → Makes (λ made. Sound P made.notes) (by_kind f v columns o k)
   unfolding by_kind HitObject.new PathObject.new PathObject.span_length
   kind_notes f v o Circle h = circle_lanes (HitObject.new f v columns o) P h t
-  kind_notes f v o (Slider repeats distance node) h =
-      slider_lanes (PathObject.new f v columns o repeats distance node) P h.0 h.1 h.2 (some_spans repeats)
+  kind_notes f v o (Slider repeats distance sound) h =
+      slider_lanes (PathObject.new f v columns o repeats distance sound) P h.0 h.1 h.2 (some_spans repeats)
       (λ l. spans_fit (PathObject.start_time o) (PathObject.end_time f o (repeats + 1) distance) (repeats + 1) (some_spans repeats) l)
   kind_notes f v o (Spinner duration) h = end_lanes v columns o duration P h
   kind_notes f v o (Hold duration) h = end_lanes v columns o duration P h
@@ -178,7 +178,7 @@ module _ (columns : ℕ) where
   pub kind_deck : (f : Facts) (o : Object) (k : Kind) → Fine (λ n. n.column < columns) f columns o k
   unfolding circle
   kind_deck f o Circle = λ c l. l
-  kind_deck f o (Slider repeats distance node) = (λ c t e l k m h. bar_deck _ l, λ c l h. bar_deck _ l, λ c l h. bar_deck _ l)
+  kind_deck f o (Slider repeats distance sound) = (λ c t e l k m h. bar_deck _ l, λ c l h. bar_deck _ l, λ c l h. bar_deck _ l)
   kind_deck f o (Spinner duration) = end_deck o _
   kind_deck f o (Hold duration) = end_deck o _
 

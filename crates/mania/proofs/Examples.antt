@@ -1,4 +1,5 @@
 -- Worked examples that the definition is held to. Assumes nothing.
+use Rattle.std.specs.Prelude.{Some, None}
 use mathlib.Core.Path.{◌≡◌, refl}
 use Prim.Native.Nat.{ℕ}
 use mathlib.Core.List.{[], ◌∷◌}
@@ -8,8 +9,6 @@ use Rattle.rules.specs.Rule.{Outcome, ended, refused, spent, run}
 use Rattle.rules.specs.Refusal.{Refusal}
 use Rattle.random.specs.Generator.{values, seeded}
 use Rattle.model.specs.declared.Kind.TheVariants.{Slider, Hold}
-use Rattle.model.specs.declared.Distance.TheVariants.{Given}
-use Rattle.model.specs.declared.NodeSound.TheVariants.{Missing}
 use Rattle.model.specs.Song.{Song}
 use Rattle.mania.specs.Steps.{single, double}
 use Rattle.mania.specs.Convert.{Walk, seed}
@@ -56,7 +55,7 @@ tiled =
       timing_points = [];
       difficulty_points = [];
       effect_points = [];
-      objects = record { position = record { x = single 0 1; y = single 0 1 }; start = double 0 1; sound = 0; kind = Slider 4 (Given (double 50 1)) Missing } ∷ [];
+      objects = record { position = record { x = single 0 1; y = single 0 1 }; start = double 0 1; sound = 0; kind = Slider 4 (Some (double 50 1)) None } ∷ [];
     }
 
 abbrev left : Outcome (Unit {0}) Refusal Walk → ℕ

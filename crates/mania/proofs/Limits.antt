@@ -287,7 +287,7 @@ ends v columns o duration =
 kinds : (f : Facts) (v : PrevValues) (columns : ℕ) (o : Object) (k : Kind) → Bound (by_kind f v columns o k)
 unfolding by_kind
 kinds f v columns o Circle = circles (HitObject.new f v columns o)
-kinds f v columns o (Slider repeats distance node) = sliders (PathObject.new f v columns o repeats distance node)
+kinds f v columns o (Slider repeats distance sound) = sliders (PathObject.new f v columns o repeats distance sound)
 kinds f v columns o (Spinner duration) = ends v columns o duration
 kinds f v columns o (Hold duration) = ends v columns o duration
 

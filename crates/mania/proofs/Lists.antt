@@ -1,5 +1,5 @@
 -- The pattern that an object leaves to the next one has as many notes as its mask has ones. Assumes nothing.
-use Rattle.std.specs.Prelude.{if◌then◌else◌}
+use Rattle.std.specs.Prelude.{if◌then◌else◌, Option}
 use mathlib.Core.Path.{◌≡◌, refl, sym, ap, ◌∙◌}
 use Prim.Native.Nat.{ℕ, ◌+◌, ◌^◌, ◌≤◌}
 use native.Mathlib.Nat.{le_trans}
@@ -13,8 +13,6 @@ use lib.Ieee.{Float}
 use lib.ListN.{length}
 use borrow.Author.Tests.{eqb-true}
 use Rattle.model.specs.declared.Object.{Object}
-use Rattle.model.specs.declared.Distance.{Distance}
-use Rattle.model.specs.declared.NodeSound.{NodeSound}
 use Rattle.mania.specs.declared.Facts.{Facts}
 use Rattle.mania.specs.declared.PrevValues.{PrevValues}
 use Rattle.mania.specs.declared.SliderNote.{SliderNote}
@@ -147,12 +145,12 @@ split_leaves g p two listed = go (eqb (length p.notes) 1) refl
           once = ap length (ending_kept g.end p.notes empty) ∙ as_many (λ b. b.column) ends (kept_two g.end p.notes two) ∙ ap ones (sym (ending_mask g.end p.notes empty));
         }
 
-slider_leaves : (f : Facts) (v : PrevValues) (columns : ℕ) (o : Object) (repeats : ℕ) (distance : Distance) (node : NodeSound) → 1 ≤ columns
+slider_leaves : (f : Facts) (v : PrevValues) (columns : ℕ) (o : Object) (repeats : ℕ) (distance : Option Float) (node : Option ℕ) → 1 ≤ columns
     → PathObject.end_time f o (repeats + 1) distance ≤ PathObject.latest
     → let g = PathObject.new f v columns o repeats distance node in Makes (λ p. Leaves (PathObject.split g p) (last_pattern g p)) (PathObject.generate_core g)
 unfolding PathObject.new PathObject.span_length
-slider_leaves f v columns o repeats distance node some late =
-    let g = PathObject.new f v columns o repeats distance node in
+slider_leaves f v columns o repeats distance sound some late =
+    let g = PathObject.new f v columns o repeats distance sound in
     less (both (core_listed g some) (bars_two (λ b. Unit {0}) g (λ c t e l k m. tt) (λ c l. tt) (λ c l. tt) (le_trans late (lit≤ tt)) (some_spans repeats)
     (λ l. spans_fit (PathObject.start_time o) (PathObject.end_time f o (repeats + 1) distance) (repeats + 1) (some_spans repeats) l)))
     (λ p h. split_leaves g p h.1.0 h.0)

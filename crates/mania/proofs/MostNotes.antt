@@ -1,5 +1,5 @@
 -- The most notes that one object can make, from the bound on what every rule of an object makes (`Counts`) and an object that makes as many. Assumes nothing.
-use Rattle.std.specs.Prelude.{if◌then◌else◌}
+use Rattle.std.specs.Prelude.{if◌then◌else◌, Some, None}
 use mathlib.Core.Path.{◌≡◌, refl, subst}
 use Prim.Native.Nat.{ℕ, ◌*◌, ◌≤◌, ◌<◌}
 use native.Mathlib.Omega.{arith}
@@ -16,8 +16,6 @@ use Rattle.random.specs.Generator.{values, seeded}
 use Rattle.random.specs.declared.Random.{Random}
 use Rattle.model.specs.declared.Object.{Object}
 use Rattle.model.specs.declared.Kind.TheVariants.{Slider}
-use Rattle.model.specs.declared.Distance.TheVariants.{Given}
-use Rattle.model.specs.declared.NodeSound.TheVariants.{Missing}
 use Rattle.mania.specs.declared.Facts.{Facts}
 use Rattle.mania.specs.declared.PrevValues.{PrevValues}
 use Rattle.mania.specs.declared.Stair.TheVariants.{Up}
@@ -86,7 +84,7 @@ abbrev before : PrevValues
 before = record { time = double 0 1; position = record { x = single 0 1; y = single 0 1 }; mask = 0; last = 0; stair = Up }
 
 abbrev repeating : Object
-repeating = record { position = record { x = single 0 1; y = single 0 1 }; start = double 0 1; sound = 0; kind = Slider most_repeats (Given (double 18 1)) Missing }
+repeating = record { position = record { x = single 0 1; y = single 0 1 }; start = double 0 1; sound = 0; kind = Slider most_repeats (Some (double 18 1)) None }
 
 taken : entry_refusal facts before 4 repeating ≡ 0
 unfolding computing

@@ -133,8 +133,8 @@ module _ (f : Facts) (v : PrevValues) (columns : ℕ) (o : Object) (before : Rea
       (Makes.both (circle_owns g fit.some)
       (when_8 columns (λ e. circle_reach g e (before.of_8 e).few fit.last (subst (λ (c : ℕ). contains (HitObject.new f v c o).flags mirror ≡ false) (sym e) (not_mirrored f v o)))))
       (λ m h. record { owned = h.0; of_8 = h.1 })
-  kind_leaves (Slider repeats distance node) =
-      let g = PathObject.new f v columns o repeats distance node in
+  kind_leaves (Slider repeats distance sound) =
+      let g = PathObject.new f v columns o repeats distance sound in
       Makes.less (Makes.both (slider_owns g fit.some) (when_8 columns (λ e. slider_reach g e fit.mask (before.of_8 e).few)))
       (λ m h. record { owned = h.0; of_8 = h.1 })
   kind_leaves (Spinner duration) = Makes.seq any (λ c u. Makes.seq any (λ p u. Makes.giving stays))
@@ -149,14 +149,14 @@ module _ (f : Facts) (v : PrevValues) (columns : ℕ) (o : Object) (before : Rea
   not_blocked : (k : Kind) → Blocked v columns k → ⊥
   unfolding Blocked
   not_blocked Circle h = h
-  not_blocked (Slider repeats distance node) h = seven h.0 h.1
+  not_blocked (Slider repeats distance sound) h = seven h.0 h.1
   not_blocked (Spinner duration) h = seven h.0 h.1
   not_blocked (Hold duration) h = seven h.0 h.1
 
   not_below : (k : Kind) → Below f v columns o k → ⊥
   unfolding Below
   not_below Circle h = from_0 h.0 h.1 h.2
-  not_below (Slider repeats distance node) h = h
+  not_below (Slider repeats distance sound) h = h
   not_below (Spinner duration) h = h
   not_below (Hold duration) h = h
 
@@ -187,7 +187,7 @@ begins columns some deck =
 pub late_same : (s : SongFacts) (d e : Density) (o : Object) (k : Kind) → Late (facts_at s d o) o k → Late (facts_at s e o) o k
 unfolding Late facts_at PathObject.end_time
 late_same s d e o Circle h = h
-late_same s d e o (Slider repeats distance node) h = h
+late_same s d e o (Slider repeats distance sound) h = h
 late_same s d e o (Spinner duration) h = h
 late_same s d e o (Hold duration) h = h
 

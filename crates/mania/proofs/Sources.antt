@@ -93,7 +93,7 @@ off_254 columns mask e k =
 blocked : (v : PrevValues) (columns : ℕ) (k : Kind) → Blocked v columns k → (c : ℕ) → random_start columns ≤ c → c < columns → NoneValid c (random_start columns) columns v.mask
 unfolding Blocked
 blocked v columns Circle h = absurd h
-blocked v columns (Slider repeats distance node) h = off_254 columns v.mask h.0 h.1
+blocked v columns (Slider repeats distance sound) h = off_254 columns v.mask h.0 h.1
 blocked v columns (Spinner duration) h = off_254 columns v.mask h.0 h.1
 blocked v columns (Hold duration) h = off_254 columns v.mask h.0 h.1
 
@@ -104,7 +104,7 @@ before_0 columns last e k = rw (e, k) (lit≤ tt)
 below : (f : Facts) (v : PrevValues) (columns : ℕ) (o : Object) (k : Kind) → Below f v columns o k → columns ≤ HitObject.reverse_stair_column (HitObject.new f v columns o)
 unfolding Below HitObject.reverse_stair_column HitObject.new
 below f v columns o Circle h = before_0 columns v.last h.0 h.1
-below f v columns o (Slider repeats distance node) h = absurd h
+below f v columns o (Slider repeats distance sound) h = absurd h
 below f v columns o (Spinner duration) h = absurd h
 below f v columns o (Hold duration) h = absurd h
 

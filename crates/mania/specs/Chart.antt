@@ -1,9 +1,8 @@
 -- The chart of an accepted job: its notes as the chart crate has them, and the buffer. Assumes nothing.
-use Rattle.std.specs.Prelude.{ℕ, suc, List, [], ◌∷◌, ◌++◌, map, length, drop}
+use Rattle.std.specs.Prelude.{ℕ, suc, List, [], ◌∷◌, ◌++◌, map, length, drop, Some}
 use Rattle.std.specs.Float.{binary64}
 use Rattle.std.specs.Float.Ieee.{to_bits}
 use Rattle.chart.specs.declared.Version.TheVariants.{Two}
-use Rattle.chart.specs.declared.Origin.TheVariants.{Object}
 use Rattle.chart.specs.declared.Note as Patterns
 use Rattle.chart.specs.Chart as Bytes
 use Rattle.mania.specs.declared.Note.{Note}
@@ -15,7 +14,7 @@ in_walk_order (ns ∷ nss) = ns ++ in_walk_order nss
 
 -- a note of the object at index i, by the bit patterns of its times
 unfoldable pub pattern_of : ℕ → Note → Patterns.Note
-pattern_of i n = record { column = n.column; hold = n.hold; origin = Object i; start = to_bits binary64 n.start; duration = to_bits binary64 n.duration }
+pattern_of i n = record { column = n.column; hold = n.hold; origin = Some i; start = to_bits binary64 n.start; duration = to_bits binary64 n.duration }
 
 -- the notes of each object in walk order, the first of them at index i
 unfoldable pub patterns_from : ℕ → List (List Note) → List Patterns.Note

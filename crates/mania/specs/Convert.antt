@@ -88,7 +88,7 @@ beginning =
 -- a circle counts in the density before its pattern is made
 unfoldable pub meets : Kind → Float → Density → Density
 meets Circle start d = compute_density start d
-meets (Slider repeats distance node) start d = d
+meets (Slider repeats distance sound) start d = d
 meets (Spinner duration) start d = d
 meets (Hold duration) start d = d
 
@@ -138,28 +138,28 @@ nodes o length (suc k) n d = nodes o length k (suc n) (compute_density (node_tim
 -- `segment_duration` of a slider; 0 where an object has no spans
 unfoldable pub span_in : Facts → Object → Kind → ℕ
 span_in f o Circle = 0
-span_in f o (Slider repeats distance node) = span_length f o repeats distance
+span_in f o (Slider repeats distance sound) = span_length f o repeats distance
 span_in f o (Spinner duration) = 0
 span_in f o (Hold duration) = 0
 
 -- the density after an object. The Rust counts a slider's nodes before it makes the pattern, which does not read the density
 unfoldable pub leaves : Object → ℕ → Kind → Density → Density
 leaves o span Circle d = d
-leaves o span (Slider repeats distance node) d = nodes o span (repeats + 2) 0 d
+leaves o span (Slider repeats distance sound) d = nodes o span (repeats + 2) 0 d
 leaves o span (Spinner duration) d = compute_density (add binary64 o.start duration) d
 leaves o span (Hold duration) d = compute_density (add binary64 o.start duration) d
 
 -- the previous time after an object: of a slider its last node's
 unfoldable pub time_after : Object → ℕ → Kind → Float
 time_after o span Circle = o.start
-time_after o span (Slider repeats distance node) = node_time o span (repeats + 1)
+time_after o span (Slider repeats distance sound) = node_time o span (repeats + 1)
 time_after o span (Spinner duration) = add binary64 o.start duration
 time_after o span (Hold duration) = add binary64 o.start duration
 
 -- the previous position after an object: of a spinner or a hold the middle
 unfoldable pub position_after : Object → Kind → Position
 position_after o Circle = o.position
-position_after o (Slider repeats distance node) = o.position
+position_after o (Slider repeats distance sound) = o.position
 position_after o (Spinner duration) = record { x = single 256 1; y = single 192 1 }
 position_after o (Hold duration) = record { x = single 256 1; y = single 192 1 }
 

@@ -14,7 +14,7 @@ use Rattle.mania.specs.EndTimeObject as EndTimeObject
 -- by the object's kind, as `convert` goes
 unfoldable pub by_kind : Facts → PrevValues → ℕ → Object → Kind → ObjectRule Made
 by_kind f v columns o Circle = HitObject.generate (HitObject.new f v columns o)
-by_kind f v columns o (Slider repeats distance node) = PathObject.generate (PathObject.new f v columns o repeats distance node)
+by_kind f v columns o (Slider repeats distance sound) = PathObject.generate (PathObject.new f v columns o repeats distance sound)
 by_kind f v columns o (Spinner duration) = EndTimeObject.generate v columns o duration
 by_kind f v columns o (Hold duration) = EndTimeObject.generate v columns o duration
 

@@ -1,5 +1,5 @@
 -- pattern_generator/path_object.rs: a slider, in whole milliseconds. Assumes nothing.
-use Rattle.std.specs.Prelude.{ℕ, zero, suc, ◌+◌, ◌-◌, ◌*◌, ◌/◌, ◌^◌, min, Bool, true, not, ◌&&◌, ◌||◌, List, [], ◌∷◌, ◌++◌, map, eqb, leb, ltb, Float, length, get_or, if◌then◌else◌}
+use Rattle.std.specs.Prelude.{ℕ, zero, suc, ◌+◌, ◌-◌, ◌*◌, ◌/◌, ◌^◌, min, Bool, true, not, ◌&&◌, ◌||◌, List, [], ◌∷◌, ◌++◌, map, eqb, leb, ltb, Float, length, get_or, if◌then◌else◌, Option, Some, None}
 use Rattle.std.specs.Int.Bits.{bit_or}
 use Rattle.std.specs.Int.Count.{ones}
 use Rattle.std.specs.Float.{binary64}
@@ -16,10 +16,6 @@ use Rattle.floats.specs.declared.Way.TheVariants.{Floor, Even}
 use Rattle.mania.specs.declared.Facts.{Facts}
 use Rattle.mania.specs.declared.PrevValues.{PrevValues}
 use Rattle.model.specs.declared.Object.{Object}
-use Rattle.model.specs.declared.Distance.{Distance}
-use Rattle.model.specs.declared.Distance.TheVariants as D
-use Rattle.model.specs.declared.NodeSound.{NodeSound}
-use Rattle.model.specs.declared.NodeSound.TheVariants as N
 use Rattle.mania.specs.declared.Note.{Note}
 use Rattle.mania.specs.declared.SliderNote.{SliderNote}
 use Rattle.mania.specs.declared.Next.TheVariants.{Draw}
@@ -42,38 +38,38 @@ adjusted_beat velocity beat =
     Ieee.mul binary64 beat (if lt as_beat (double 0 1) then multiplier else double 1 1)
 
 -- a missing distance is 0
-unfoldable pub distance_of : Distance → Float
-distance_of D.Missing = double 0 1
-distance_of (D.Given d) = d
+unfoldable pub distance_of : Option Float → Float
+distance_of None = double 0 1
+distance_of (Some d) = d
 
 -- a missing first node sound is the object's own: `sample_info_list_at` at the start
-unfoldable pub head_sound : NodeSound → ℕ → ℕ
-head_sound N.Missing sound = sound
-head_sound (N.Given s) sound = s
+unfoldable pub head_sound : Option ℕ → ℕ → ℕ
+head_sound None sound = sound
+head_sound (Some s) sound = s
 
 -- the start, rounded to the nearest whole number, ties to even
 unfoldable pub start_time : Object → ℕ
 start_time o = count Even o.start
 
 -- floor of start + distance·beat·spans·0.01 / multiplier
-unfoldable pub end_time : Facts → Object → ℕ → Distance → ℕ
+unfoldable pub end_time : Facts → Object → ℕ → Option Float → ℕ
 end_time f o spans distance =
     let path = Ieee.mul binary64 (distance_of distance) (adjusted_beat f.velocity f.beat) in
     let whole = Ieee.mul binary64 (Ieee.mul binary64 path (double# spans)) (double 1 100) in
     count Floor (Ieee.add binary64 (double# (start_time o)) (Ieee.div binary64 whole f.multiplier))
 
 -- `segment_duration`: the length of one span, in whole milliseconds; the end is not before the start
-unfoldable pub span_length : Facts → Object → ℕ → Distance → ℕ
+unfoldable pub span_length : Facts → Object → ℕ → Option Float → ℕ
 span_length f o repeats distance = (end_time f o (repeats + 1) distance - start_time o) / (repeats + 1)
 
 -- `new`
-unfoldable pub new : Facts → PrevValues → ℕ → Object → ℕ → Distance → NodeSound → PathObjectPatternGenerator
-new f v columns o repeats distance node =
+unfoldable pub new : Facts → PrevValues → ℕ → Object → ℕ → Option Float → Option ℕ → PathObjectPatternGenerator
+new f v columns o repeats distance sound =
     record {
       columns = columns;
       x = o.position.x;
       sound = o.sound;
-      head = head_sound node o.sound;
+      head = head_sound sound o.sound;
       difficulty = f.difficulty;
       mask = v.mask;
       stair = v.stair;

@@ -1,13 +1,11 @@
 -- Document 01: a previous pattern lists each column once. So its mask tells how many notes it has, and a mask with one bit (`alone` of HitObject) stands
 -- for the Rust's `prev_pattern.hit_objects.len() == 1`. Assumes nothing.
-use Rattle.std.specs.Prelude.{◌≡◌, ℕ, ◌+◌, ◌≤◌, eqb, Float, length, if◌then◌else◌}
+use Rattle.std.specs.Prelude.{◌≡◌, ℕ, ◌+◌, ◌≤◌, eqb, Float, length, if◌then◌else◌, Option}
 use Rattle.std.specs.Int.Count.{ones}
 use Rattle.rules.specs.Rule.{ended, run}
 use Rattle.random.specs.Generator.{values}
 use Rattle.random.specs.declared.Random.{Random}
 use Rattle.model.specs.declared.Object.{Object}
-use Rattle.model.specs.declared.Distance.{Distance}
-use Rattle.model.specs.declared.NodeSound.{NodeSound}
 use Rattle.mania.specs.declared.Facts.{Facts}
 use Rattle.mania.specs.declared.PrevValues.{PrevValues}
 use Rattle.mania.specs.declared.SliderNote.{SliderNote}
@@ -35,7 +33,7 @@ pub record ListsOnce : Type 0 where
       → (a n : ℕ) (r : Random) (made : Made) → run (HitObject.generate (HitObject.new f v columns o)) (values a r) ≡ ended made n
       → Leaves made (record { mask = made.mask; last = made.last; notes = made.notes })
   -- a slider its last pattern; one that ends too late makes none,
-  pub slider : (f : Facts) (v : PrevValues) (columns : ℕ) (o : Object) (repeats : ℕ) (distance : Distance) (node : NodeSound) → 1 ≤ columns
+  pub slider : (f : Facts) (v : PrevValues) (columns : ℕ) (o : Object) (repeats : ℕ) (distance : Option Float) (node : Option ℕ) → 1 ≤ columns
       → PathObject.end_time f o (repeats + 1) distance ≤ PathObject.latest
       → let g = PathObject.new f v columns o repeats distance node in
       (a n : ℕ) (r : Random) (p : Pattern SliderNote) → run (PathObject.generate_core g) (values a r) ≡ ended p n → Leaves (PathObject.split g p) (last_pattern g p)

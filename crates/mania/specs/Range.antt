@@ -9,7 +9,7 @@ use Rattle.model.specs.declared.Object.{Object}
 -- of a slider, its repeats
 abbrev pub FewRepeats : Kind → Type 0
 FewRepeats Circle = Unit {0}
-FewRepeats (Slider repeats distance node) = repeats ≤ most_repeats
+FewRepeats (Slider repeats distance sound) = repeats ≤ most_repeats
 FewRepeats (Spinner duration) = Unit {0}
 FewRepeats (Hold duration) = Unit {0}
 

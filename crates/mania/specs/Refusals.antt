@@ -27,7 +27,7 @@ use Rattle.chart.specs.Layout.{header_size, chart_size}
 -- 8: a slider ends above the latest time
 unfoldable pub Late : Facts → Object → Kind → Type 0
 Late f o Circle = ⊥
-Late f o (Slider repeats distance node) = latest < end_time f o (repeats + 1) distance
+Late f o (Slider repeats distance sound) = latest < end_time f o (repeats + 1) distance
 Late f o (Spinner duration) = ⊥
 Late f o (Hold duration) = ⊥
 
@@ -54,14 +54,14 @@ pub record NoneValid (initial lower upper taken : ℕ) : Type 0 where
 -- is never refused by 9
 unfoldable pub Blocked : PrevValues → ℕ → Kind → Type 0
 Blocked v columns Circle = ⊥
-Blocked v columns (Slider repeats distance node) = (columns ≡ 8) × (v.mask ≡ 254)
+Blocked v columns (Slider repeats distance sound) = (columns ≡ 8) × (v.mask ≡ 254)
 Blocked v columns (Spinner duration) = (columns ≡ 8) × (v.mask ≡ 254)
 Blocked v columns (Hold duration) = (columns ≡ 8) × (v.mask ≡ 254)
 
 -- 10 needs 8 columns and a circle in a reverse stair from column 0, the previous pattern's only column
 unfoldable pub Below : Facts → PrevValues → ℕ → Object → Kind → Type 0
 Below f v columns o Circle = (columns ≡ 8) × (v.last ≡ 0) × (ones v.mask ≡ 1) × (contains (HitObject.new f v columns o).flags reverse_stair ≡ true)
-Below f v columns o (Slider repeats distance node) = ⊥
+Below f v columns o (Slider repeats distance sound) = ⊥
 Below f v columns o (Spinner duration) = ⊥
 Below f v columns o (Hold duration) = ⊥
 

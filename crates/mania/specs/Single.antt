@@ -1,5 +1,5 @@
 -- The single-object entry: its checks, and what it gives. Assumes nothing.
-use Rattle.std.specs.Prelude.{ℕ, ◌*◌, ◌^◌, Bool, true, not, ◌&&◌, List, eqb, leb, ltb, Float, length, if◌then◌else◌}
+use Rattle.std.specs.Prelude.{ℕ, ◌*◌, ◌^◌, Bool, true, not, ◌&&◌, List, eqb, leb, ltb, Float, length, if◌then◌else◌, Option, Some, None}
 use Rattle.std.specs.Float.Ieee.{le}
 use Rattle.std.specs.Float.Ieee.Scale.{finite}
 use Rattle.model.specs.Limits.{Range, most_repeats, multiplier_range, beat_range, velocity_range, span_range, coordinate_range, distance_range, most_difficulty}
@@ -15,10 +15,6 @@ use Rattle.mania.specs.declared.PrevValues.{PrevValues}
 use Rattle.model.specs.declared.Object.{Object}
 use Rattle.model.specs.declared.Kind.{Kind}
 use Rattle.model.specs.declared.Kind.TheVariants.{Circle, Slider, Spinner, Hold}
-use Rattle.model.specs.declared.Distance.{Distance}
-use Rattle.model.specs.declared.Distance.TheVariants as D
-use Rattle.model.specs.declared.NodeSound.{NodeSound}
-use Rattle.model.specs.declared.NodeSound.TheVariants as N
 use Rattle.mania.specs.declared.Stair.{Stair}
 use Rattle.mania.specs.Pattern.{free}
 use Rattle.mania.specs.Made.{Made}
@@ -52,19 +48,19 @@ points_fit f = inside beat_range f.beat && inside velocity_range f.velocity
 unfoldable pub position_fits : Position → Bool
 position_fits p = inside coordinate_range p.x && inside coordinate_range p.y
 
-unfoldable pub distance_fits : Distance → Bool
-distance_fits D.Missing = true
-distance_fits (D.Given d) = inside distance_range d
+unfoldable pub distance_fits : Option Float → Bool
+distance_fits None = true
+distance_fits (Some d) = inside distance_range d
 
 -- four bits
-unfoldable pub node_fits : NodeSound → Bool
-node_fits N.Missing = true
-node_fits (N.Given s) = ltb s 16
+unfoldable pub node_fits : Option ℕ → Bool
+node_fits None = true
+node_fits (Some s) = ltb s 16
 
 -- what the kind carries
 unfoldable pub kind_fits : Kind → Bool
 kind_fits Circle = true
-kind_fits (Slider repeats distance node) = leb repeats most_repeats && distance_fits distance && node_fits node
+kind_fits (Slider repeats distance sound) = leb repeats most_repeats && distance_fits distance && node_fits sound
 kind_fits (Spinner duration) = inside span_range duration
 kind_fits (Hold duration) = inside span_range duration
 

@@ -39,6 +39,7 @@ pub struct PrevValues {
 #[derive(Clone, Copy)]
 pub struct Note {
     pub column: u8,
+    // Beside the duration, as a chart has them: the bytes of a note are made from both.
     pub hold: bool,
     pub start: f64,
     pub duration: f64,
@@ -84,7 +85,7 @@ pub struct CircleChances {
     pub p5: f64,
 }
 
-// The chances of a note at the centre, and of two and of three notes at each side.
+// The chances of a note at the centre, and of two and of three notes at each side: other chances than a circle's.
 #[derive(Clone, Copy)]
 pub struct MirrorChances {
     pub centre: f64,

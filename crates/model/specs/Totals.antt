@@ -26,7 +26,7 @@ last_start start (o ∷ os) = last_start o.start os
 -- one more for a slider or a spinner
 unfoldable pub longer : Kind → ℕ → ℕ
 longer Circle n = n
-longer (Slider repeats distance node) n = n + 1
+longer (Slider repeats distance sound) n = n + 1
 longer (Spinner duration) n = n + 1
 longer (Hold duration) n = n
 

@@ -47,28 +47,15 @@ pub struct Position {
     pub y: f32,
 }
 
-// A slider's distance. A missing one counts as 0.
-#[derive(Clone, Copy)]
-pub enum Distance {
-    Missing,
-    Given(f64),
-}
-
-// The sound of a slider's first node. A missing one is the object's own.
-#[derive(Clone, Copy)]
-pub enum NodeSound {
-    Missing,
-    Given(u8),
-}
-
-// What an object is. A spinner's duration and a slider's distance travel inside it.
+// What an object is. A spinner's duration and a slider's distance travel inside it: a missing distance counts as 0, and a missing sound of the first node is
+// the object's own.
 #[derive(Clone, Copy)]
 pub enum Kind {
     Circle,
     Slider {
         repeats: u16,
-        distance: Distance,
-        node: NodeSound,
+        distance: Option<f64>,
+        node: Option<u8>,
     },
     Spinner(f64),
     Hold(f64),

@@ -1,5 +1,5 @@
 -- Columns of words: they have four bits, and of circles, spinners and holds the notes differ in nothing else. Assumes nothing.
-use Rattle.std.specs.Prelude.{if◌then◌else◌}
+use Rattle.std.specs.Prelude.{if◌then◌else◌, Some}
 use mathlib.Core.Path.{◌≡◌, refl, sym, subst}
 use Prim.Native.Nat.{ℕ, ◌%◌, ◌^◌, ◌<◌}
 use native.Mathlib.Nat.{mod-lt}
@@ -9,7 +9,6 @@ use lib.Ieee.{Float, le}
 use lib.Pow.{pow_pos}
 use Rattle.chart.specs.Layout.{indices}
 use Rattle.chart.specs.Chart.{index}
-use Rattle.chart.specs.declared.Origin.TheVariants as Origin
 use Rattle.chart.specs.declared.Note as Patterns
 use Rattle.model.specs.declared.Object.{Object}
 use Rattle.mania.specs.declared.Note.{Note}
@@ -46,7 +45,7 @@ told_below i n h = h
 
 -- a pattern in a word's column, of the object at index i
 abbrev pub row_in : ℕ → Patterns.Note → ℕ → Patterns.Note
-row_in i p w = record { column = w % 2 ^ 4; hold = p.hold; origin = Origin.Object i; start = p.start; duration = p.duration }
+row_in i p w = record { column = w % 2 ^ 4; hold = p.hold; origin = Some i; start = p.start; duration = p.duration }
 
 pub row_is : (i : ℕ) (n : Note) → row_in i (pattern_of i n) ≡ (λ (w : ℕ). pattern_of i (in_column n w))
 unfolding pattern_of in_column

@@ -11,7 +11,7 @@ ghost use Rattle.slider_notes.specs.Words.{note_of_word};
 ghost use Rattle.object.specs.Notes.{note_at};
 ghost use Rattle.notes.specs.Columns.{in_column};
 
-use chart::Origin;
+use chart::Version;
 use chart::layout::NOTE_SIZE;
 use mania::Note;
 use model::{Kind, Object};
@@ -20,12 +20,12 @@ use model::{Kind, Object};
 fn pattern_of(index: u16, n: Note) -> chart::Note
     ensures { result ≡ pattern_of index n }
 {
-    let start = floats::bits_f64(n.start);
-    let duration = floats::bits_f64(n.duration);
+    let start = std::num::f64_to_bits_with_nan(n.start);
+    let duration = std::num::f64_to_bits_with_nan(n.duration);
     chart::Note {
         column: n.column,
         hold: n.hold,
-        origin: Origin::Object(index),
+        origin: Some(index),
         start,
         duration,
     }
@@ -58,17 +58,15 @@ fn put_in_columns(index: u16, n: Note, words: &[u64], count: usize, s: &mut [u8]
     ensures { s.new ≡ splice s.old at (body index (map (in_column n) (take count words.now))) }
 {
     let p = pattern_of(index, n);
-    let mut i = 0;
-    while i < count {
+    for i in 0..count {
         let row = chart::Note {
             column: pattern::column_of(words[i]),
             hold: p.hold,
-            origin: Origin::Object(index),
+            origin: Some(index),
             start: pinned(p.start, i, words.len()),
             duration: pinned(p.duration, i, words.len()),
         };
-        chart::rows::put_note(s, at + NOTE_SIZE * i, row);
-        i += 1;
+        chart::rows::put_note(Version::Two, s, at + NOTE_SIZE * i, row);
     }
 }
 
@@ -77,12 +75,10 @@ fn put_slider_notes(index: u16, words: &[u64], count: usize, s: &mut [u8], at: u
     requires { (index < indices) × (count ≤ length words.now) × (at + note_size * count ≤ length s.old) }
     ensures { s.new ≡ splice s.old at (body index (map note_of_word (take count words.now))) }
 {
-    let mut i = 0;
-    while i < count {
+    for i in 0..count {
         let n = slider_notes::note_of(words[i]);
         let p = pattern_of(index, n);
-        chart::rows::put_note(s, at + NOTE_SIZE * i, p);
-        i += 1;
+        chart::rows::put_note(Version::Two, s, at + NOTE_SIZE * i, p);
     }
 }
 
@@ -95,11 +91,7 @@ pub fn put_notes(index: u16, o: Object, words: &[u64], count: usize, s: &mut [u8
     let kind = o.kind;
     match kind {
         Kind::Circle => put_in_columns(index, circle(o.start), words, count, s, at),
-        Kind::Slider {
-            repeats: _,
-            distance: _,
-            node: _,
-        } => put_slider_notes(index, words, count, s, at),
+        Kind::Slider { .. } => put_slider_notes(index, words, count, s, at),
         Kind::Spinner(duration) => put_in_columns(
             index,
             end_time_object::end_note_at(o, duration, 0),

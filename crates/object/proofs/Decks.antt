@@ -1,4 +1,5 @@
 -- What each kind of object comes to, and that what it leaves for the next one lies on the deck. Assumes nothing.
+use Rattle.std.specs.Prelude.{Option}
 use mathlib.Core.Path.{◌≡◌, sym, subst}
 use Prim.Native.Nat.{ℕ, ◌^◌, ◌≤◌, ◌<◌}
 use mathlib.Core.List.{List}
@@ -10,8 +11,6 @@ use Rattle.rules.specs.Refusal.{ObjectRule}
 use Rattle.random.specs.Play.{on}
 use Rattle.random.specs.declared.Draws.{Draws}
 use Rattle.random.specs.Laws.On.{gives}
-use Rattle.model.specs.declared.Distance.{Distance}
-use Rattle.model.specs.declared.NodeSound.{NodeSound}
 use Rattle.model.specs.declared.Kind.{Kind}
 use Rattle.model.specs.declared.Kind.TheVariants.{Circle, Slider, Spinner, Hold}
 use Rattle.model.specs.declared.Object.{Object}
@@ -28,8 +27,9 @@ use Rattle.mania.proofs.Makes.{Makes, any, giving, seq, less}
 use Rattle.mania.proofs.CircleDeck.{circle_makes}
 use Rattle.mania.proofs.SliderDeck.{slider_makes}
 use Rattle.pattern.specs.Answers.{object_end, noted, Generates}
-use Rattle.pattern.specs.declared.ObjectEnd.{ObjectEnd}
-use Rattle.pattern.specs.declared.ObjectEnd.TheVariants as E
+use Rattle.std.specs.Prelude.{Result, Ok, Err}
+use Rattle.random.specs.declared.Refused.{Refused}
+use Rattle.pattern.specs.declared.Made as Lent
 use Rattle.end_time_object.specs.Answers.{end_note_at}
 use Rattle.circle_notes.specs.Answers.{circle_at}
 use Rattle.slider_notes.specs.Words.{note_of_word}
@@ -48,17 +48,17 @@ unfolding EndTimeObject.generate
 end_on v columns o duration l m = seq any (λ c u. seq any (λ p u. giving (l, m)))
 
 -- an answer that is a rule's, where the rule gives only what is on the deck
-on_deck : (columns : ℕ) (rule : ObjectRule Made) → Makes (MadeOn columns) rule → (d : Draws) (read : ℕ → Note) (exit : List ℕ) (most : ℕ) (r : ObjectEnd)
+on_deck : (columns : ℕ) (rule : ObjectRule Made) → Makes (MadeOn columns) rule → (d : Draws) (read : ℕ → Note) (exit : List ℕ) (most : ℕ) (r : Result (Lent.Made × Draws) Refused)
     → Generates read exit (on rule d) most r → most ≤ most_notes → OnDeck columns r
-on_deck columns rule m d read exit most r h k = go r h.says h.few
+on_deck columns rule makes d read exit most r h k = go r h.says h.few
   where
-    go : (r : ObjectEnd) → object_end read exit r ≡ on rule d → noted r ≤ most → OnDeck columns r
-    go (E.Made p s e) says few = let on = gives (MadeOn columns) rule m.made d _ e (sym says) in (omega arith, on.1, on.0)
-    go (E.Refused x e) says few = tt
+    go : (r : Result (Lent.Made × Draws) Refused) → object_end read exit r ≡ on rule d → noted r ≤ most → OnDeck columns r
+    go (Ok (m, e)) says few = let on = gives (MadeOn columns) rule makes.made d _ e (sym says) in (omega arith, on.1, on.0)
+    go (Err e) says few = tt
 
 -- ---- each kind
 
-module _ (f : Facts) (v : PrevValues) (columns : ℕ) (o : Object) (d : Draws) (words : List ℕ) (r : ObjectEnd) where
+module _ (f : Facts) (v : PrevValues) (columns : ℕ) (o : Object) (d : Draws) (words : List ℕ) (r : Result (Lent.Made × Draws) Refused) where
   by_kind_law : (k : Kind) → o.kind ≡ k → object_end (note_by o k) words r ≡ on (by_kind f v columns o k) d → OnDeck columns r → Ends f v columns o d words r
   unfolding note_at object
   by_kind_law k e says deck = record { says = subst (λ (k : Kind). object_end (note_by o k) words r ≡ on (by_kind f v columns o k) d) (sym e) says; deck = deck }
@@ -67,11 +67,11 @@ module _ (f : Facts) (v : PrevValues) (columns : ℕ) (o : Object) (d : Draws) (
   unfolding note_by by_kind HitObject.new
   circle_ends e low h = by_kind_law Circle e h.says (on_deck columns _ (circle_on (HitObject.new f v columns o) low) d _ words 14 r h (lit≤ tt))
 
-  pub slider_ends : (repeats : ℕ) (distance : Distance) (node : NodeSound) → o.kind ≡ Slider repeats distance node → 0 < columns
+  pub slider_ends : (repeats : ℕ) (distance : Option Float) (node : Option ℕ) → o.kind ≡ Slider repeats distance node → 0 < columns
       → Generates note_of_word words (on (PathObject.generate (PathObject.new f v columns o repeats distance node)) d) most_notes r → Ends f v columns o d words r
   unfolding note_by by_kind PathObject.new
-  slider_ends repeats distance node e low h =
-      by_kind_law (Slider repeats distance node) e h.says (on_deck columns _ (slider_makes (PathObject.new f v columns o repeats distance node) low) d _ words most_notes r h (lit≤ tt))
+  slider_ends repeats distance sound e low h =
+      by_kind_law (Slider repeats distance sound) e h.says (on_deck columns _ (slider_makes (PathObject.new f v columns o repeats distance sound) low) d _ words most_notes r h (lit≤ tt))
 
   module _ (duration : Float) (l : v.last < columns) (m : v.mask < 2 ^ columns) (h : Generates (end_note_at o duration) words (on (EndTimeObject.generate v columns o duration) d) 1 r) where
     deck : OnDeck columns r

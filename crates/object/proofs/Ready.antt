@@ -1,4 +1,5 @@
 -- A slider in range is what the slider's generator asks for: its start is below 2 ^ 25, and its spans end by its end. Assumes nothing.
+use Rattle.std.specs.Prelude.{Option, Float}
 use Prim.Native.Nat.{ℕ, ◌+◌, ◌-◌, ◌≤◌}
 use native.Mathlib.Nat.{div-mul-le_self}
 use native.Mathlib.Omega.{arith}
@@ -7,8 +8,6 @@ use Rattle.model.specs.Limits.{most_repeats, most_notes, latest_start}
 use Rattle.floats.specs.Laws.Wholes.{count_le}
 use Rattle.floats.specs.Laws.Values.{UpTo}
 use Rattle.floats.specs.declared.Way.TheVariants.{Even}
-use Rattle.model.specs.declared.Distance.{Distance}
-use Rattle.model.specs.declared.NodeSound.{NodeSound}
 use Rattle.model.specs.declared.Object.{Object}
 use Rattle.mania.specs.declared.Facts.{Facts}
 use Rattle.mania.specs.declared.PrevValues.{PrevValues}
@@ -19,7 +18,7 @@ start_early : (o : Object) → UpTo latest_start o.start → PathObject.start_ti
 unfolding PathObject.start_time
 start_early o h = let x = o.start in count_le Even x (num x) (den x) latest_start (den_pos x) h.size h.high
 
-module _ (f : Facts) (v : PrevValues) (columns : ℕ) (o : Object) (repeats : ℕ) (distance : Distance) (node : NodeSound) (words : ℕ) where
+module _ (f : Facts) (v : PrevValues) (columns : ℕ) (o : Object) (repeats : ℕ) (distance : Option Float) (node : Option ℕ) (words : ℕ) where
   pub ready : 1 ≤ columns → columns ≤ 9 → repeats ≤ most_repeats → UpTo latest_start o.start → most_notes ≤ words → Ready (PathObject.new f v columns o repeats distance node) words
   unfolding PathObject.new PathObject.span_length
   ready low high few start room = record {

@@ -1,5 +1,5 @@
 -- What `generate` asks and what it promises. Assumes nothing.
-use Rattle.std.specs.Prelude.{◌≡◌, ℕ, ◌^◌, ◌≤◌, ◌<◌, List}
+use Rattle.std.specs.Prelude.{◌≡◌, ℕ, ◌^◌, ◌≤◌, ◌<◌, List, Result, Ok, Err}
 use Rattle.model.specs.Limits.{most_notes}
 use Rattle.random.specs.Play.{on}
 use Rattle.random.specs.declared.Draws.{Draws}
@@ -9,8 +9,8 @@ use Rattle.mania.specs.declared.PrevValues.{PrevValues}
 use Rattle.mania.specs.Object.{object}
 use Rattle.mania.specs.Range.{InRange}
 use Rattle.pattern.specs.Answers.{object_end}
-use Rattle.pattern.specs.declared.ObjectEnd.{ObjectEnd}
-use Rattle.pattern.specs.declared.ObjectEnd.TheVariants as E
+use Rattle.random.specs.declared.Refused.{Refused}
+use Rattle.pattern.specs.declared.Made.{Made}
 use Rattle.object.specs.Notes.{note_at}
 
 -- a deck, a previous pattern on it, an object in range, and two buffers of at least 602 words
@@ -24,11 +24,11 @@ pub record Asks (v : PrevValues) (columns : ℕ) (o : Object) (size spare_size :
   pub spare : most_notes ≤ spare_size
 
 -- at most 602 notes, and a pattern on the deck for the next object
-abbrev pub OnDeck : ℕ → ObjectEnd → Type 0
-OnDeck columns (E.Made p s d) = (p.count ≤ most_notes) × (p.mask < 2 ^ columns) × (p.last < columns)
-OnDeck columns (E.Refused x d) = Unit {0}
+abbrev pub OnDeck : ℕ → Result (Made × Draws) Refused → Type 0
+OnDeck columns (Ok (m, d)) = (m.pattern.count ≤ most_notes) × (m.pattern.mask < 2 ^ columns) × (m.pattern.last < columns)
+OnDeck columns (Err e) = Unit {0}
 
 -- the answer, with the words as they are left, is what the object's rule comes to
-pub record Ends (f : Facts) (v : PrevValues) (columns : ℕ) (o : Object) (d : Draws) (words : List ℕ) (r : ObjectEnd) : Type 0 where
+pub record Ends (f : Facts) (v : PrevValues) (columns : ℕ) (o : Object) (d : Draws) (words : List ℕ) (r : Result (Made × Draws) Refused) : Type 0 where
   pub says : object_end (note_at o) words r ≡ on (object f v columns o) d
   pub deck : OnDeck columns r

@@ -11,7 +11,7 @@ use Rattle.slider_notes.specs.Words.{note_of_word}
 -- by the object's kind: a slider's word has column, start and end; any other kind's has the column
 unfoldable pub note_by : Object → Kind → ℕ → Note
 note_by o Circle = circle_at o.start
-note_by o (Slider repeats distance node) = note_of_word
+note_by o (Slider repeats distance sound) = note_of_word
 note_by o (Spinner duration) = end_note_at o duration
 note_by o (Hold duration) = end_note_at o duration
 

@@ -13,9 +13,9 @@ ghost use Rattle.slider_notes.specs.Words.{note_of_word};
 ghost use Rattle.object.specs.Contract.{Asks, Ends};
 
 use mania::{Facts, PrevValues};
-use model::{Distance, Kind, NodeSound, Object};
-use pattern::ObjectEnd;
-use random::Draws;
+use model::{Kind, Object};
+use pattern::Made;
+use random::{Draws, Outcome};
 
 // A circle's notes.
 fn generate_circle(
@@ -26,7 +26,7 @@ fn generate_circle(
     words: &mut [u64],
     spare: &mut [u64],
     d: Draws,
-) -> ObjectEnd
+) -> Outcome<Made>
     requires { (1 ≤ columns) × (columns ≤ 9) × (v.last < columns) × (most_notes ≤ length words.old) }
     ensures { Generates (circle_at o.start) words.new (on (HitObject.generate (HitObject.new f v columns o)) d) 14 result }
 {
@@ -41,12 +41,12 @@ fn generate_slider(
     columns: u8,
     o: Object,
     repeats: u16,
-    distance: Distance,
-    node: NodeSound,
+    distance: Option<f64>,
+    node: Option<u8>,
     words: &mut [u64],
     spare: &mut [u64],
     d: Draws,
-) -> ObjectEnd
+) -> Outcome<Made>
     requires { (1 ≤ columns) × (columns ≤ 9) × (repeats ≤ most_repeats) × UpTo latest_start o.start × (most_notes ≤ length words.old) × (most_notes ≤ length spare.old) }
     ensures { Generates note_of_word words.new (on (PathObject.generate (PathObject.new f v columns o repeats distance node)) d) most_notes result }
 {
@@ -63,7 +63,7 @@ pub fn generate(
     words: &mut [u64],
     spare: &mut [u64],
     d: Draws,
-) -> ObjectEnd
+) -> Outcome<Made>
     requires { Asks v columns o (length words.old) (length spare.old) }
     ensures { Ends f v columns o d words.new result }
 {

@@ -1,5 +1,5 @@
 -- A number that its field cannot hold is refused as the field's largest value is. Assumes nothing.
-use Rattle.std.specs.Prelude.{◌≡◌, Bool, true, false, not, ◌&&◌, cond, List, eqb, leb, Float, if◌then◌else◌}
+use Rattle.std.specs.Prelude.{◌≡◌, Bool, true, false, not, ◌&&◌, cond, List, eqb, leb, Float, if◌then◌else◌, Option, Some, None}
 use Rattle.std.proofs.Math.Path.{refl, ap₂}
 use Rattle.std.proofs.Common.{sym, ap, ◌∙◌, arith, lit<, pow_mono}
 use Prim.Native.Nat.{ℕ, zero, suc, ◌^◌, ◌≤◌, ◌<◌, min}
@@ -9,9 +9,6 @@ use borrow.Author.Tests.{eqb-true, eqb-false, leb-true, ltb-true, ltb-false, lt-
 use Rattle.rules.specs.Numbers as Numbers
 use Rattle.random.specs.declared.Random.{Random}
 use Rattle.model.specs.Limits.{most_repeats, most_spans, span_range}
-use Rattle.model.specs.declared.Distance.{Distance}
-use Rattle.model.specs.declared.NodeSound.{NodeSound}
-use Rattle.model.specs.declared.NodeSound.TheVariants as N
 use Rattle.model.specs.declared.Kind.{Kind}
 use Rattle.model.specs.declared.Kind.TheVariants.{Slider}
 use Rattle.model.specs.declared.Object.{Object}
@@ -46,7 +43,7 @@ pub node_test : (given n : ℕ) → node_fits (node_of given (saturate8 n)) ≡ 
 unfolding node_fits
 node_test given n = go (is_set given)
   where
-    go : (b : Bool) → node_fits (cond b (N.Given (saturate8 n)) N.Missing) ≡ node_fits (cond b (N.Given n) N.Missing)
+    go : (b : Bool) → node_fits (cond b (Some (saturate8 n)) None) ≡ node_fits (cond b (Some n) None)
     go true = same_test n largest8 16 (omega arith)
     go false = refl
 
@@ -54,11 +51,11 @@ pub node_itself : (given n : ℕ) → node_fits (node_of given (saturate8 n)) �
 unfolding node_fits
 node_itself given n = go (is_set given)
   where
-    go : (b : Bool) → node_fits (cond b (N.Given (saturate8 n)) N.Missing) ≡ true → ◌≡◌ {A = NodeSound} (cond b (N.Given (saturate8 n)) N.Missing) (cond b (N.Given n) N.Missing)
-    go true h = ap N.Given (itself n largest8 16 (omega arith) (ltb-true (saturate8 n) 16 h))
+    go : (b : Bool) → node_fits (cond b (Some (saturate8 n)) None) ≡ true → ◌≡◌ {A = Option ℕ} (cond b (Some (saturate8 n)) None) (cond b (Some n) None)
+    go true h = ap Some (itself n largest8 16 (omega arith) (ltb-true (saturate8 n) 16 h))
     go false h = refl
 
-module _ (repeats : ℕ) (distance : Distance) (given node : ℕ) (duration : Float) where
+module _ (repeats : ℕ) (distance : Option Float) (given node : ℕ) (duration : Float) where
   abbrev cut_kind : ℕ → Kind
   cut_kind kind = kind_of kind (saturate16 repeats) distance (node_of given (saturate8 node)) duration
 
@@ -78,7 +75,7 @@ module _ (repeats : ℕ) (distance : Distance) (given node : ℕ) (duration : Fl
   kind_itself zero e = refl
   kind_itself (suc zero) e =
       let t = three (leb (saturate16 repeats) most_repeats) (distance_fits distance) (node_fits (node_of given (saturate8 node))) e in
-      ap₂ (λ (r : ℕ) (n : NodeSound). Slider r distance n)
+      ap₂ (λ (r : ℕ) (n : Option ℕ). Slider r distance n)
       (itself repeats largest16 most_spans (omega arith) (omega (arith, leb-true (saturate16 repeats) most_repeats t.0))) (node_itself given node t.2)
   kind_itself (suc (suc zero)) e = refl
   kind_itself (suc (suc (suc zero))) e = refl
@@ -100,7 +97,7 @@ passed : (b : Bool) (n r : ℕ) → 0 < n → (if not b then n else r) ≡ 0 →
 passed true n r h e = (refl, e)
 passed false n r h e = absurd (omega arith)
 
-module _ (f : Facts) (time before_x before_y : Float) (mask last reverse columns : ℕ) (x y start : Float) (sound kind repeats : ℕ) (distance : Distance) (given node : ℕ) (duration : Float) where
+module _ (f : Facts) (time before_x before_y : Float) (mask last reverse columns : ℕ) (x y start : Float) (sound kind repeats : ℕ) (distance : Option Float) (given node : ℕ) (duration : Float) where
   abbrev cut_previous : PrevValues
   cut_previous = previous_of time before_x before_y (saturate16 mask) (saturate8 last) reverse
 

@@ -1,10 +1,6 @@
 -- One object as a host in C lends it and gets it back: the values of its numbers, and the numbers of its answer. Assumes nothing.
-use Rattle.std.specs.Prelude.{◌≡◌, Bool, not, cond, List, ℕ, zero, suc, min, eqb, Float}
+use Rattle.std.specs.Prelude.{◌≡◌, Bool, not, cond, List, ℕ, zero, suc, min, eqb, Float, Option, Some, None}
 use Rattle.random.specs.declared.Random.{Random}
-use Rattle.model.specs.declared.Distance.{Distance}
-use Rattle.model.specs.declared.Distance.TheVariants as D
-use Rattle.model.specs.declared.NodeSound.{NodeSound}
-use Rattle.model.specs.declared.NodeSound.TheVariants as N
 use Rattle.model.specs.declared.Kind.{Kind}
 use Rattle.model.specs.declared.Kind.TheVariants.{Circle, Slider, Spinner, Hold}
 use Rattle.model.specs.declared.Object.{Object}
@@ -36,19 +32,19 @@ saturate16 n = min n largest16
 abbrev pub is_set : ℕ → Bool
 is_set n = not (eqb n 0)
 
-abbrev pub distance_of : ℕ → Float → Distance
-distance_of given d = cond (is_set given) (D.Given d) D.Missing
+abbrev pub distance_of : ℕ → Float → Option Float
+distance_of given d = cond (is_set given) (Some d) None
 
-abbrev pub node_of : ℕ → ℕ → NodeSound
-node_of given s = cond (is_set given) (N.Given s) N.Missing
+abbrev pub node_of : ℕ → ℕ → Option ℕ
+node_of given s = cond (is_set given) (Some s) None
 
 -- 0 a circle, 1 a slider, 2 a spinner, 3 a hold; any other number is a slider of more repeats than a record can hold, which is refused by 6
-unfoldable pub kind_of : ℕ → ℕ → Distance → NodeSound → Float → Kind
-kind_of zero repeats distance node duration = Circle
-kind_of (suc zero) repeats distance node duration = Slider repeats distance node
-kind_of (suc (suc zero)) repeats distance node duration = Spinner duration
-kind_of (suc (suc (suc zero))) repeats distance node duration = Hold duration
-kind_of (suc (suc (suc (suc k)))) repeats distance node duration = Slider largest16 D.Missing N.Missing
+unfoldable pub kind_of : ℕ → ℕ → Option Float → Option ℕ → Float → Kind
+kind_of zero repeats distance sound duration = Circle
+kind_of (suc zero) repeats distance sound duration = Slider repeats distance sound
+kind_of (suc (suc zero)) repeats distance sound duration = Spinner duration
+kind_of (suc (suc (suc zero))) repeats distance sound duration = Hold duration
+kind_of (suc (suc (suc (suc k)))) repeats distance sound duration = Slider largest16 None None
 
 abbrev pub object_of : Float → Float → Float → ℕ → Kind → Object
 object_of x y start sound kind = record { position = record { x = x; y = y }; start = start; sound = sound; kind = kind }

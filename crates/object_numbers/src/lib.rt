@@ -6,9 +6,9 @@ ghost use Rattle.single.specs.Ends.{single_end};
 ghost use Rattle.object_numbers.specs.Single.{saturate8, saturate16, is_set, distance_of, node_of, kind_of, object_of, facts_of, stair_of, previous_of, stair_number, told};
 
 use mania::{Facts, PrevValues, Stair};
-use model::{Distance, Kind, NodeSound, Object, Position};
+use model::{Kind, Object, Position};
 use random::Random;
-use single::SingleEnd;
+use single::{Converted, ObjectRefused};
 
 // An answer: the refusal's number, or 0, and what the outputs get.
 #[derive(Clone, Copy)]
@@ -22,31 +22,18 @@ pub struct Told {
     pub draws: u32,
 }
 
-// The largest numbers of a field of 8 and of 16 bits. specs/Single.antt has the same.
-const LARGEST_8: u8 = 255;
-
-const LARGEST_16: u16 = 65535;
-
 // A host's number for a field of 8 bits. One that the field cannot hold becomes its largest, which is refused as the number itself is.
 pub fn saturate_u8(n: u32) -> u8
     ensures { result ≡ saturate8 n }
 {
-    if n < LARGEST_8 as u32 {
-        n as u8
-    } else {
-        LARGEST_8
-    }
+    n.min(u32::from(u8::MAX)) as u8
 }
 
-// The same for 16 bits.
+// The same for 16 bits. One function over both would be longer than the two lines.
 pub fn saturate_u16(n: u32) -> u16
     ensures { result ≡ saturate16 n }
 {
-    if n < LARGEST_16 as u32 {
-        n as u16
-    } else {
-        LARGEST_16
-    }
+    n.min(u32::from(u16::MAX)) as u16
 }
 
 fn is_set(n: u32) -> bool
@@ -55,29 +42,27 @@ fn is_set(n: u32) -> bool
     n != 0
 }
 
-pub fn distance_of(given: u32, d: f64) -> Distance
+pub fn distance_of(given: u32, d: f64) -> Option<f64>
     ensures { result ≡ distance_of given d }
 {
-    if is_set(given) {
-        Distance::Given(d)
-    } else {
-        Distance::Missing
-    }
+    is_set(given).then_some(d)
 }
 
-pub fn node_of(given: u32, sound: u32) -> NodeSound
+pub fn node_of(given: u32, sound: u32) -> Option<u8>
     ensures { result ≡ node_of given (saturate8 sound) }
 {
     let sound = saturate_u8(sound);
-    if is_set(given) {
-        NodeSound::Given(sound)
-    } else {
-        NodeSound::Missing
-    }
+    is_set(given).then_some(sound)
 }
 
-// A number that is no kind's gives a slider that is refused by 6.
-pub fn kind_of(kind: u32, repeats: u32, distance: Distance, node: NodeSound, duration: f64) -> Kind
+// A kind, and whether something is given, are numbers in the C interface. A number that is no kind's gives a slider that is refused by 6.
+pub fn kind_of(
+    kind: u32,
+    repeats: u32,
+    distance: Option<f64>,
+    node: Option<u8>,
+    duration: f64,
+) -> Kind
     ensures { result ≡ kind_of kind (saturate16 repeats) distance node duration }
 {
     let repeats = saturate_u16(repeats);
@@ -91,9 +76,9 @@ pub fn kind_of(kind: u32, repeats: u32, distance: Distance, node: NodeSound, dur
         2 => Kind::Spinner(duration),
         3 => Kind::Hold(duration),
         _ => Kind::Slider {
-            repeats: LARGEST_16,
-            distance: Distance::Missing,
-            node: NodeSound::Missing,
+            repeats: u16::MAX,
+            distance: None,
+            node: None,
         },
     }
 }
@@ -161,33 +146,30 @@ pub fn previous_of(time: f64, x: f32, y: f32, mask: u32, last: u32, reverse: u32
 fn stair_number(stair: Stair) -> u32
     ensures { result ≡ stair_number stair }
 {
-    match stair {
-        Stair::Up => 0,
-        Stair::Reverse => 1,
-    }
+    stair as u32
 }
 
 // The answer's numbers: after a refusal zeros, with its number and the state.
-pub fn tell(end: SingleEnd) -> Told
+pub fn tell(end: Result<Converted, ObjectRefused>) -> Told
     ensures { (notes : List ℕ) → result ≡ told (single_end notes end).answer }
 {
     match end {
-        SingleEnd::Made(count, mask, last, stair, state, draws) => Told {
+        Ok(made) => Told {
             number: 0,
-            count,
-            mask: mask as u32,
-            last: last as u32,
-            stair: stair_number(stair),
-            state,
-            draws,
+            count: made.count,
+            mask: made.mask as u32,
+            last: made.last as u32,
+            stair: stair_number(made.stair),
+            state: made.random,
+            draws: made.draws,
         },
-        SingleEnd::Refused(number, state) => Told {
-            number: number as u32,
+        Err(refused) => Told {
+            number: u32::from(refused.refusal),
             count: 0,
             mask: 0,
             last: 0,
             stair: 0,
-            state,
+            state: refused.random,
             draws: 0,
         },
     }

@@ -1,5 +1,11 @@
 -- The split of a slider's pattern, as the walk order of its notes. Assumes nothing.
-use Rattle.std.specs.Prelude.{if◌then◌else◌}
+use Rattle.std.specs.Prelude.{if◌then◌else◌, Result, IsErrAnd}
+use Rattle.std.proofs.Common.{sym, zero-le}
+use Rattle.std.proofs.lemmas.Result.{err_from_is_err_and}
+use Rattle.rules.specs.Coded.{code}
+use Rattle.random.specs.declared.Refused.{Refused}
+use Rattle.random.specs.Laws.Try.{exit}
+use Rattle.pattern.specs.declared.Made as LentMade
 use mathlib.Core.Path.{◌≡◌, refl, ap, ◌∙◌}
 use Prim.Native.Nat.{ℕ, suc, ◌≤◌, ◌<◌}
 use native.Mathlib.Omega.{arith}
@@ -8,7 +14,7 @@ use mathlib.Core.List.{List, [], ◌∷◌, ◌++◌, map}
 use lib.Dec.{eqb}
 use borrow.Author.Tests.{lt-ltb, le-ltb, ne_eqb}
 use lib.ListN.{length, take}
-use Rattle.random.specs.Play.{found, refused, play, on}
+use Rattle.random.specs.Play.{Answer, found, refused, play, on}
 use Rattle.random.specs.declared.Draws.{Draws}
 use Rattle.random.specs.Laws.On.{found_bind, refused_bind}
 use Rattle.mania.specs.declared.SliderNote.{SliderNote}
@@ -18,7 +24,7 @@ use Rattle.mania.specs.Pattern.{Pattern, empty, put}
 use Rattle.mania.specs.PathObject.{note_of, others, ending, split, latest, generate, generate_core}
 use Rattle.mania.specs.declared.Note.{Note}
 use Rattle.mania.specs.declared.Stair.{Stair}
-use Rattle.pattern.specs.Answers.{pattern}
+use Rattle.pattern.specs.Answers.{pattern, made_by, Generates}
 use Rattle.pattern.specs.declared.Pattern as Lent
 use Rattle.slider_notes.specs.Words.{of_word, note_of_word}
 use Rattle.slider_notes.specs.Order.{walk_order}
@@ -66,3 +72,8 @@ module _ (g : PathObjectPatternGenerator) (d : Draws) where
   pub refused_in : g.end ≤ latest → (x : ℕ) (e : Draws) → on (generate_core g) d ≡ refused x e → on (generate g) d ≡ refused x e
   unfolding generate
   refused_in h x e f = rw (le-ltb _ _ h) (refused_bind (generate_core g) _ _ _ _ f)
+
+-- its exit answers the refusal of a call
+pub stops : (words : List ℕ) (e : Refused) (r : Result (LentMade.Made × Draws) Refused) → IsErrAnd r (λ y. y ≡ e) → (a : Answer ℕ Made) (most : ℕ)
+    → a ≡ refused (code e.refusal) e.draws → Generates note_of_word words a most r
+stops words e r h a most w = let p = err_from_is_err_and r h in record { says = exit (made_by note_of_word words) r e h ∙ sym w; few = rw p.1 zero-le }

@@ -16,22 +16,12 @@ ghost use Rattle.path_object.specs.Parts.{Ready};
 
 use mania::PathObjectPatternGenerator;
 use model::limits::LATEST_END;
-use pattern::{ObjectEnd, Pattern, Placed};
-use random::Draws;
-use rules::numbers;
+use pattern::{EMPTY, Made, Pattern};
+use random::{Draws, Outcome, Refused};
+use rules::Refusal;
 use slider_times::Chance;
 
 // ---- the branches in their order
-
-// How long a slider lasts.
-fn lasting(start: u32, end: u32) -> u32
-    ensures { result ≡ end - start }
-{
-    if end < start {
-        return 0;
-    }
-    end - start
-}
 
 // Fewer spans than this can be tiled.
 fn tile_limit(columns: u8) -> u32
@@ -43,7 +33,11 @@ fn tile_limit(columns: u8) -> u32
 }
 
 // `generate_` with more than one span.
-pub fn generate_spans(d: Draws, g: PathObjectPatternGenerator, words: &mut [u64]) -> Placed
+pub fn generate_spans(
+    d: Draws,
+    g: PathObjectPatternGenerator,
+    words: &mut [u64],
+) -> Outcome<Pattern>
     requires { Fits g (length words.old) × (g.length * g.spans ≤ g.end - g.start) }
     ensures { Places words.new (on (Path.generate_spans g) d) most_notes result }
 {
@@ -63,7 +57,7 @@ pub fn generate_spans(d: Draws, g: PathObjectPatternGenerator, words: &mut [u64]
     if fast {
         return slider_patterns::generate_random_multiple_notes(d, g, words);
     }
-    let lasts = lasting(g.start, g.end);
+    let lasts = g.end.saturating_sub(g.start);
     if 4000 <= lasts {
         let chance = Chance {
             p2: 0.23,
@@ -100,7 +94,7 @@ fn span_notes(length: u32) -> u32
 }
 
 // `generate_` with one span.
-pub fn generate_span(d: Draws, g: PathObjectPatternGenerator, words: &mut [u64]) -> Placed
+pub fn generate_span(d: Draws, g: PathObjectPatternGenerator, words: &mut [u64]) -> Outcome<Pattern>
     requires { Fits g (length words.old) }
     ensures { Places words.new (on (Path.generate_span g) d) most_notes result }
 {
@@ -116,20 +110,15 @@ pub fn generate_span(d: Draws, g: PathObjectPatternGenerator, words: &mut [u64])
 }
 
 // `generate_`
-pub fn generate_core(d: Draws, g: PathObjectPatternGenerator, words: &mut [u64]) -> Placed
+pub fn generate_core(d: Draws, g: PathObjectPatternGenerator, words: &mut [u64]) -> Outcome<Pattern>
     requires { Ready g (length words.old) × (g.end ≤ Path.latest) }
     ensures { Places words.new (on (Path.generate_core g) d) most_notes result }
 {
     let columns = g.columns;
     let spans = g.spans;
     if columns == 1 {
-        let blank = Pattern {
-            mask: 0,
-            last: 0,
-            count: 0,
-        };
-        let p = slider_notes::put_slider_note(words, blank, 0, g.start, g.end);
-        return Placed::Notes(p, d);
+        let p = slider_notes::put_slider_note(words, EMPTY, 0, g.start, g.end);
+        return Ok((p, d));
     }
     if 1 < spans {
         return generate_spans(d, g, words);
@@ -143,20 +132,19 @@ pub fn generate_by_value(
     g: PathObjectPatternGenerator,
     words: &mut [u64],
     spare: &mut [u64],
-) -> ObjectEnd
+) -> Outcome<Made>
     requires { Ready g (length spare.old) × (most_notes ≤ length words.old) }
     ensures { Generates note_of_word words.new (on (Path.generate g) d) most_notes result }
 {
     let end = g.end;
-    let stair = g.stair;
     if LATEST_END < end {
-        return ObjectEnd::Refused(numbers::SLIDER_END, d);
+        return Err(Refused {
+            refusal: Refusal::SliderEnd,
+            draws: d,
+        });
     }
-    match generate_core(d, g, spare) {
-        Placed::Notes(p, next) => {
-            let q = slider_notes::split(spare, p, end, words);
-            ObjectEnd::Made(q, stair, next)
-        }
-        Placed::Refused(x, next) => ObjectEnd::Refused(x, next),
-    }
+    let (p, next) = generate_core(d, g, spare)?;
+    let pattern = slider_notes::split(spare, p, end, words);
+    let stair = g.stair;
+    Ok((Made { pattern, stair }, next))
 }

@@ -4,3 +4,4 @@ pub mod Adds
 pub mod Bounds
 pub mod Words
 pub mod Tables
+pub mod Exits

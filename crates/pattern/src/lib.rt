@@ -4,35 +4,30 @@
 ghost use Rattle.std.specs.Prelude.{◌≡◌, ◌-◌, ◌^◌, ◌≤◌, ◌<◌, length};
 ghost use Rattle.std.specs.Int.Bits.{bit_or};
 ghost use Rattle.std.specs.Int.Count.{ones};
-ghost use Rattle.random.specs.Play.{on};
+ghost use Rattle.random.specs.Play.{on, searched};
+ghost use Rattle.random.specs.Answers.{number};
 ghost use Rattle.mania.specs.PatternType.{contains};
 ghost use Rattle.mania.specs.Pattern.{free, any_free};
 ghost use Rattle.mania.specs.ManiaObject as ManiaObject;
 ghost use Rattle.mania.specs.PatternGenerator.{random_start, get_column, note_count, get_random_note_count, get_random_column, next_column, step_to, draw_to, search_on, column_search, find_available_column};
-ghost use Rattle.pattern.specs.Answers.{number, search_end, column_of};
+ghost use Rattle.pattern.specs.Answers.{search_end, column_of};
 ghost use Rattle.pattern.specs.Listed.{listed};
 
 use floats::Way;
 use mania::{Next, Stair};
 use model::limits::SEARCH_LIMIT;
-use random::{Drawn, Draws};
-use rules::numbers;
+use random::{Draws, Outcome, Refused};
+use rules::Refusal;
 
-// What a rule that ends in a number gives: that number, or the number of a refusal, and the draws after it.
+// A column that a search found, and how many draws the search made.
 #[derive(Clone, Copy)]
-pub enum Number {
-    Given(u8, Draws),
-    Refused(u8, Draws),
+pub struct Found {
+    pub column: u8,
+    pub made: u32,
 }
 
-// What a search for a column gives: the column, how many draws the search made, and the draws after it; or the number of a refusal.
-#[derive(Clone, Copy)]
-pub enum Search {
-    Found(u8, u32, Draws),
-    Refused(u8, Draws),
-}
-
-// A pattern: the mask of its columns, its last column, and how many words of a lent buffer are its notes.
+// A pattern: the mask of its columns, its last column, and how many words of a lent buffer are its notes. A number beside a buffer: there is no heap, and
+// whoever calls a generator lends the room.
 #[derive(Clone, Copy)]
 pub struct Pattern {
     pub mask: u16,
@@ -40,19 +35,18 @@ pub struct Pattern {
     pub count: usize,
 }
 
-// A pattern, or the number of a refusal, and the draws after it.
-#[derive(Clone, Copy)]
-pub enum Placed {
-    Notes(Pattern, Draws),
-    Refused(u8, Draws),
-}
+// The pattern without notes.
+pub const EMPTY: Pattern = Pattern {
+    mask: 0,
+    last: 0,
+    count: 0,
+};
 
-// What an object's generator gives: its notes in walk order, with the mask and last column that the next object meets, and the stair; or the number of
-// a refusal; and the draws after it.
+// What an object's generator makes: its notes in walk order, with the mask and last column that the next object meets, and the stair.
 #[derive(Clone, Copy)]
-pub enum ObjectEnd {
-    Made(Pattern, Stair, Draws),
-    Refused(u8, Draws),
+pub struct Made {
+    pub pattern: Pattern,
+    pub stair: Stair,
 }
 
 // ---- the bits of a convert type
@@ -106,12 +100,10 @@ pub fn any_free(mask: u16, lower: u8, upper: u8) -> bool
     requires { (lower ≤ upper) × (upper ≤ 16) }
     ensures { result ≡ any_free mask lower (upper - lower) }
 {
-    let mut c = lower;
-    while c < upper {
+    for c in lower..upper {
         if is_free(mask, c) {
             return true;
         }
-        c += 1;
     }
     false
 }
@@ -145,7 +137,7 @@ pub fn column(x: f32, total: u8) -> u8
     requires { 0 < total }
     ensures { result ≡ ManiaObject.column x total }
 {
-    let n = floats::to_count_f32(x / (512.0 / (total as f32)), Way::Floor);
+    let n = floats::to_count(x / (512.0 / (total as f32)), Way::Floor);
     let last = total - 1;
     if n < last as u32 { n as u8 } else { last }
 }
@@ -163,15 +155,12 @@ pub fn get_column(x: f32, columns: u8) -> u8
 }
 
 // A drawn column from lower up to, and without, upper.
-pub fn get_random_column(d: Draws, lower: u8, upper: u8) -> Number
+pub fn get_random_column(d: Draws, lower: u8, upper: u8) -> Outcome<u8>
     requires { (lower < upper) × (upper ≤ 9) }
     ensures { number result ≡ on (get_random_column lower upper) d }
 {
-    let Drawn::Value(v, next) = random::draw(d) else {
-        return Number::Refused(numbers::NO_DRAW_LEFT, d);
-    };
-    let c = random::next_int_range(v, lower, upper);
-    Number::Given(c, next)
+    let (v, next) = random::draw(d)?;
+    Ok((random::next_int_range(v, lower, upper), next))
 }
 
 // ---- counts of notes
@@ -196,15 +185,12 @@ pub fn note_count(p2: f64, p3: f64, p4: f64, p5: f64, p6: f64, val: f64) -> u8
 }
 
 // A drawn count of notes.
-pub fn get_random_note_count(d: Draws, p2: f64, p3: f64, p4: f64, p5: f64, p6: f64) -> Number
+pub fn get_random_note_count(d: Draws, p2: f64, p3: f64, p4: f64, p5: f64, p6: f64) -> Outcome<u8>
     ensures { number result ≡ on (get_random_note_count p2 p3 p4 p5 p6) d }
 {
-    let Drawn::Value(v, next) = random::draw(d) else {
-        return Number::Refused(numbers::NO_DRAW_LEFT, d);
-    };
+    let (v, next) = random::draw(d)?;
     let val = random::next_double(v);
-    let n = note_count(p2, p3, p4, p5, p6, val);
-    Number::Given(n, next)
+    Ok((note_count(p2, p3, p4, p5, p6, val), next))
 }
 
 // ---- the search
@@ -222,48 +208,62 @@ pub fn next_column(columns: u8, c: u8) -> u8
 }
 
 // Steps by one until a free column comes, at most once round the deck.
-fn step_to(d: Draws, columns: u8, taken: u16, initial: u8) -> Search
+fn step_to(d: Draws, columns: u8, taken: u16, initial: u8) -> Outcome<Found>
     requires { (initial < columns) × (columns ≤ 9) }
     ensures { search_end result ≡ on (step_to columns columns taken initial) d }
 {
-    let mut c = initial;
-    let mut left = columns;
-    while 0 < left {
-        c = next_column(columns, c);
-        if is_free(taken, c) {
-            return Search::Found(c, 0, d);
+    let mut column = initial;
+    for _ in 0..columns {
+        column = next_column(columns, column);
+        if is_free(taken, column) {
+            return Ok((Found { column, made: 0 }, d));
         }
-        left = left - 1;
     }
-    Search::Refused(numbers::NO_COLUMN, d)
+    Err(Refused {
+        refusal: Refusal::NoColumn,
+        draws: d,
+    })
+}
+
+// A refusal of a search that made `made` draws and left `rest`.
+fn search_refused(refusal: Refusal, rest: Draws, made: u32) -> Refused
+    ensures { (result.refusal ≡ refusal) × (result.draws ≡ searched made rest) }
+{
+    let draws = random::after_search(rest, made);
+    Refused { refusal, draws }
 }
 
 // Draws from lower up to, and without, upper until a free column comes, and counts its draws: where it needs one beyond the limit, 16.
-fn draw_to(d: Draws, lower: u8, upper: u8, taken: u16) -> Search
+fn draw_to(d: Draws, lower: u8, upper: u8, taken: u16) -> Outcome<Found>
     requires { (lower < upper) × (upper ≤ 9) }
     ensures { search_end result ≡ on (draw_to lower upper taken) d }
 {
     let mut rest = d;
-    let mut made: u32 = 0;
-    while made < SEARCH_LIMIT {
-        let Drawn::Value(v, next) = random::draw(rest) else {
-            let after = random::after_search(rest, made);
-            return Search::Refused(numbers::NO_DRAW_LEFT, after);
+    for made in 0..SEARCH_LIMIT {
+        let Ok((v, next)) = random::draw(rest) else {
+            return Err(search_refused(Refusal::NoDrawLeft, rest, made));
         };
-        made = made + 1;
         rest = next;
-        let c = random::next_int_range(v, lower, upper);
-        if is_free(taken, c) {
+        let column = random::next_int_range(v, lower, upper);
+        if is_free(taken, column) {
+            let made = made + 1;
             let after = random::after_search(rest, made);
-            return Search::Found(c, made, after);
+            return Ok((Found { column, made }, after));
         }
     }
-    let after = random::after_search(rest, made);
-    Search::Refused(numbers::LONG_SEARCH, after)
+    Err(search_refused(Refusal::LongSearch, rest, SEARCH_LIMIT))
 }
 
 // How a search goes on from a column that is taken.
-fn search_on(d: Draws, next: Next, columns: u8, c: u8, lower: u8, upper: u8, taken: u16) -> Search
+fn search_on(
+    d: Draws,
+    next: Next,
+    columns: u8,
+    c: u8,
+    lower: u8,
+    upper: u8,
+    taken: u16,
+) -> Outcome<Found>
     requires { (c < columns) × (columns ≤ 9) × (lower < upper) × (upper ≤ 9) }
     ensures { search_end result ≡ on (search_on next columns c lower upper taken) d }
 {
@@ -282,17 +282,26 @@ pub fn column_search(
     lower: u8,
     upper: u8,
     taken: u16,
-) -> Search
+) -> Outcome<Found>
     requires { (initial < columns) × (columns ≤ 9) × (lower < upper) × (upper ≤ 9) }
     ensures { search_end result ≡ on (column_search next columns initial lower upper taken) d }
 {
     if is_free(taken, initial) {
-        return Search::Found(initial, 0, d);
+        return Ok((
+            Found {
+                column: initial,
+                made: 0,
+            },
+            d,
+        ));
     }
     if any_free(taken, lower, upper) {
         return search_on(d, next, columns, initial, lower, upper, taken);
     }
-    Search::Refused(numbers::NO_COLUMN, d)
+    Err(Refused {
+        refusal: Refusal::NoColumn,
+        draws: d,
+    })
 }
 
 // The column of a search. The tally has its draws where no search before made more. A free column is tested here too, so that the compiler takes that
@@ -305,15 +314,13 @@ pub fn find_available_column(
     lower: u8,
     upper: u8,
     taken: u16,
-) -> Number
+) -> Outcome<u8>
     requires { (initial < columns) × (columns ≤ 9) × (lower < upper) × (upper ≤ 9) }
     ensures { number result ≡ on (find_available_column next columns initial lower upper taken) d }
 {
     if is_free(taken, initial) {
-        return Number::Given(initial, d);
+        return Ok((initial, d));
     }
-    match column_search(d, next, columns, initial, lower, upper, taken) {
-        Search::Found(c, made, after) => Number::Given(c, after),
-        Search::Refused(n, after) => Number::Refused(n, after),
-    }
+    let (found, after) = column_search(d, next, columns, initial, lower, upper, taken)?;
+    Ok((found.column, after))
 }

@@ -10,7 +10,6 @@ use Rattle.record.specs.Section.{timing_points, difficulty_points, effect_points
 use Rattle.record.specs.Lookup.{times, up_to}
 use Rattle.points.specs.declared.Passed.{Passed}
 use Rattle.points.specs.declared.Lasting.{Lasting}
-use Rattle.points.specs.declared.LastingFlag.{LastingFlag}
 
 -- how many of n points from bit p on are passed at the time t
 abbrev pub passed : Section → List ℕ → ℕ → ℕ → Float → ℕ
@@ -36,13 +35,13 @@ pub record Lasts {A : Type 0} (f : Float → A) (number : Float → ℕ) (n : �
 abbrev pub NumberLasts : Section → List ℕ → ℕ → ℕ → Passed → Type 0
 NumberLasts k s p n r = Lasts (passed k s p n) (passed k s p n) n r.number r
 
-abbrev pub BeatLasts : List ℕ → ℕ → ℕ → Lasting → Type 0
+abbrev pub BeatLasts : List ℕ → ℕ → ℕ → Lasting Float → Type 0
 BeatLasts s p n c = Lasts (beat_at (timing_points s p n)) (passed TimingPoints s (p + At.entry) (n - 1)) (n - 1) c.value c.passed
 
-abbrev pub VelocityLasts : List ℕ → ℕ → ℕ → Lasting → Type 0
+abbrev pub VelocityLasts : List ℕ → ℕ → ℕ → Lasting Float → Type 0
 VelocityLasts s p n c = Lasts (velocity_at (difficulty_points s p n)) (passed DifficultyPoints s p n) n c.value c.passed
 
-abbrev pub KiaiLasts : List ℕ → ℕ → ℕ → LastingFlag → Type 0
+abbrev pub KiaiLasts : List ℕ → ℕ → ℕ → Lasting Bool → Type 0
 KiaiLasts s p n c = Lasts (kiai_at (effect_points s p n)) (passed EffectPoints s p n) n c.value c.passed
 
 -- no point is passed, and any value lasts between a time and itself: at no time

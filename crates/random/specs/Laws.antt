@@ -7,3 +7,4 @@ pub mod Took
 pub mod Range
 pub mod Unit
 pub mod Allowance
+pub mod Try

@@ -4,7 +4,9 @@
 ghost use Rattle.std.specs.Prelude.{◌≡◌, ◌+◌, ◌-◌, ◌*◌, ◌^◌, ◌≤◌, ◌<◌};
 ghost use Rattle.random.specs.Generator.{seeded, next, low, between, unit};
 ghost use Rattle.random.specs.Play.{on, value, searched};
-ghost use Rattle.random.specs.Answers.{drawn};
+ghost use Rattle.random.specs.Answers.{number};
+
+use rules::Refusal;
 
 // The generator state: four words.
 #[derive(Clone, Copy)]
@@ -29,12 +31,15 @@ pub struct Draws {
     pub tally: Tally,
 }
 
-// What a draw gives: a value below 2^31, and the draws after it.
+// A refusal, and the draws as they are then.
 #[derive(Clone, Copy)]
-pub enum Drawn {
-    Value(u32, Draws),
-    Spent,
+pub struct Refused {
+    pub refusal: Refusal,
+    pub draws: Draws,
 }
+
+// What a rule gives: a value, and the draws after it; or a refusal.
+pub type Outcome<T> = Result<(T, Draws), Refused>;
 
 // A state, and the value of the step that made it.
 #[derive(Clone, Copy)]
@@ -92,14 +97,17 @@ fn lent_step(mut random: Random) -> Stepped
     Stepped { random, value }
 }
 
-// One draw: a step, where one is left.
-pub fn draw(d: Draws) -> Drawn
-    ensures { drawn d result ≡ on value d }
+// One draw: a step, where one is left. Its value is below 2^31.
+pub fn draw(d: Draws) -> Outcome<u32>
+    ensures { number result ≡ on value d }
 {
     let tally = d.tally;
     let left = tally.left;
     if left == 0 {
-        return Drawn::Spent;
+        return Err(Refused {
+            refusal: Refusal::NoDrawLeft,
+            draws: d,
+        });
     }
     let s = lent_step(d.random);
     let random = s.random;
@@ -108,7 +116,7 @@ pub fn draw(d: Draws) -> Drawn
         left: left - 1,
         longest,
     };
-    Drawn::Value(s.value, Draws { random, tally })
+    Ok((s.value, Draws { random, tally }))
 }
 
 // The draws after a search that made `made` of them: the longest search is raised.

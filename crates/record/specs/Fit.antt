@@ -1,5 +1,5 @@
 -- What an accepted record says of its song: the ranges of all fields, and the orders of its lists. Assumes nothing.
-use Rattle.std.specs.Prelude.{◌≤◌, ◌<◌, ◌≡◌, true, false, List, [], ◌∷◌, T, length, Float}
+use Rattle.std.specs.Prelude.{◌≤◌, ◌<◌, ◌≡◌, true, false, List, [], ◌∷◌, T, length, Float, Option, Some, None, ℕ}
 use Rattle.std.specs.Float.{Format, binary32, binary64}
 use Rattle.std.specs.Float.Ieee.{fits, lt}
 use Rattle.model.specs.Limits.{Range, most_repeats, most_breaks, most_entries, setting_range, multiplier_range, time_range, beat_range, velocity_range, span_range, coordinate_range, distance_range}
@@ -9,8 +9,6 @@ use Rattle.model.specs.declared.BreakPeriod.{BreakPeriod}
 use Rattle.model.specs.declared.TimingPoint.{TimingPoint}
 use Rattle.model.specs.declared.DifficultyPoint.{DifficultyPoint}
 use Rattle.model.specs.declared.EffectPoint.{EffectPoint}
-use Rattle.model.specs.declared.Distance.{Distance}
-use Rattle.model.specs.declared.NodeSound.{NodeSound}
 use Rattle.model.specs.declared.Kind.{Kind}
 use Rattle.model.specs.declared.Kind.TheVariants.{Circle, Slider, Spinner, Hold}
 use Rattle.model.specs.declared.Object.{Object}
@@ -57,17 +55,17 @@ FitEffect p = FitTime p.time
 abbrev pub FitSpan : Float → Type 0
 FitSpan = Bounded binary64 span_range
 
-abbrev pub FitDistance : Distance → Type 0
-FitDistance Distance.Missing = Unit {0}
-FitDistance (Distance.Given d) = Bounded binary64 distance_range d
+abbrev pub FitDistance : Option Float → Type 0
+FitDistance None = Unit {0}
+FitDistance (Some d) = Bounded binary64 distance_range d
 
-abbrev pub FitNode : NodeSound → Type 0
-FitNode NodeSound.Missing = Unit {0}
-FitNode (NodeSound.Given sound) = sound < 16
+abbrev pub FitNode : Option ℕ → Type 0
+FitNode None = Unit {0}
+FitNode (Some sound) = sound < 16
 
 abbrev pub FitKind : Kind → Type 0
 FitKind Circle = Unit {0}
-FitKind (Slider repeats distance node) = (repeats ≤ most_repeats) × FitDistance distance × FitNode node
+FitKind (Slider repeats distance sound) = (repeats ≤ most_repeats) × FitDistance distance × FitNode sound
 FitKind (Spinner d) = FitSpan d
 FitKind (Hold d) = FitSpan d
 

@@ -1,19 +1,16 @@
 -- Objects: kind 2, sound 4, x 32, y 32, start 64, and what the kind adds. Assumes nothing.
-use Rattle.std.specs.Prelude.{ℕ, zero, suc, ◌+◌, ◌*◌, Bool, false, ◌||◌, List, [], ◌∷◌, ◌++◌, ltb, Float}
+use Rattle.std.specs.Prelude.{ℕ, zero, suc, ◌+◌, ◌*◌, Bool, false, ◌||◌, List, [], ◌∷◌, ◌++◌, ltb, Float, Option, Some, None, Result, Ok, Err}
 use Rattle.std.specs.Float.{binary64}
 use Rattle.std.specs.Float.Ieee.{round, lt}
 use Rattle.rules.specs.Numbers as Numbers
 use Rattle.model.specs.Limits.{most_repeats, span_range, distance_range, coordinate_range}
 use Rattle.bits.specs.Field.{bits}
-use Rattle.model.specs.declared.Distance.{Distance}
-use Rattle.model.specs.declared.NodeSound.{NodeSound}
 use Rattle.model.specs.declared.Kind.{Kind}
 use Rattle.model.specs.declared.Kind.TheVariants.{Circle, Slider, Spinner, Hold}
 use Rattle.model.specs.declared.Object.{Object}
 use Rattle.model.specs.Totals.{last_start, sliders_and_spinners}
 use Rattle.record.specs.declared.objects.ReadObject.{ReadObject}
-use Rattle.record.specs.declared.objects.Scan.{Scan}
-use Rattle.record.specs.declared.objects.Scan.TheVariants.{Refused, Scanned}
+use Rattle.record.specs.declared.objects.Scanned.{Scanned}
 use Rattle.record.specs.Layout as At
 use Rattle.record.specs.Refusal.{Field, field, plain, out32, out64, fields_refusal, f32_at, f64_at, entries_refusal, entries, entries_end}
 
@@ -28,15 +25,15 @@ unfolding node_bit
 slider_end s q = node_bit s q + 1 + 4 * bits s (node_bit s q) 1
 
 -- the distance at bit p, by the bit before it
-unfoldable pub distance_by : List ℕ → ℕ → ℕ → Distance
+unfoldable pub distance_by : List ℕ → ℕ → ℕ → Option Float
 unfolding f64_at
-distance_by s p zero = Distance.Missing
-distance_by s p (suc b) = Distance.Given (f64_at s p)
+distance_by s p zero = None
+distance_by s p (suc b) = Some (f64_at s p)
 
 -- the first node sound at bit p, by the bit before it
-unfoldable pub node_by : List ℕ → ℕ → ℕ → NodeSound
-node_by s p zero = NodeSound.Missing
-node_by s p (suc b) = NodeSound.Given (bits s p 4)
+unfoldable pub node_by : List ℕ → ℕ → ℕ → Option ℕ
+node_by s p zero = None
+node_by s p (suc b) = Some (bits s p 4)
 
 unfoldable pub slider_at : List ℕ → ℕ → Kind
 unfolding node_bit distance_by node_by
@@ -152,10 +149,10 @@ unfolding object_end entries_end
 objects_end s p n = entries_end (object_end s) p n
 
 -- what the check of the objects returns: the number, or where they end, the last start, and how many are sliders and spinners
-abbrev pub scan_by : ℕ → ℕ → Float → ℕ → Scan
-scan_by zero end last long = Scanned end last long
-scan_by (suc n) end last long = Refused (suc n)
+abbrev pub scan_by : ℕ → ℕ → Float → ℕ → Result Scanned ℕ
+scan_by zero end last long = Ok (record { end = end; last = last; long = long })
+scan_by (suc n) end last long = Err (suc n)
 
-unfoldable pub scan : List ℕ → ℕ → ℕ → Scan
+unfoldable pub scan : List ℕ → ℕ → ℕ → Result Scanned ℕ
 unfolding objects_refusal objects_end objects zero_start
 scan s p n = scan_by (objects_refusal s p n) (objects_end s p n) (last_start zero_start (objects s p n)) (sliders_and_spinners (objects s p n))

@@ -1,5 +1,5 @@
 -- The whole record: `parse` gives its song, or the number of its refusal. Assumes nothing.
-use Rattle.std.specs.Prelude.{ℕ, zero, suc, ◌+◌, ◌-◌, ◌*◌, ◌/◌, ◌≤◌, not, ◌||◌, List, ltb, eqb, length}
+use Rattle.std.specs.Prelude.{ℕ, zero, suc, ◌+◌, ◌-◌, ◌*◌, ◌/◌, ◌≤◌, not, ◌||◌, List, ltb, eqb, length, Result, Ok, Err}
 use Rattle.rules.specs.Numbers as Numbers
 use Rattle.bits.specs.Field.{bits}
 use Rattle.model.specs.Song.{Song}
@@ -8,8 +8,6 @@ use Rattle.record.specs.declared.section.Section.TheVariants.{Breaks, TimingPoin
 use Rattle.record.specs.declared.header.Counts.{Counts}
 use Rattle.record.specs.declared.header.Places.{Places}
 use Rattle.record.specs.declared.Summary.{Summary}
-use Rattle.record.specs.declared.Checked.{Checked}
-use Rattle.record.specs.declared.Checked.TheVariants.{Refused, Accepted}
 use Rattle.record.specs.Layout as At
 use Rattle.record.specs.Refusal.{◌gives◌, ◌then◌}
 use Rattle.record.specs.Header.{header_refusal, keys_of, settings_of, counts_of}
@@ -112,6 +110,6 @@ summary_of song =
       long = sliders_and_spinners song.objects;
     }
 
-abbrev pub checked_of : Parsed → Checked
-checked_of (accepted song) = Accepted (summary_of song)
-checked_of (refused n) = Refused n
+abbrev pub checked_of : Parsed → Result Summary ℕ
+checked_of (accepted song) = Ok (summary_of song)
+checked_of (refused n) = Err n

@@ -1,14 +1,15 @@
 // The header: fields at fixed places.
 ghost use Rattle.std.specs.Prelude.{◌≡◌, ◌≤◌};
+ghost use Rattle.rules.specs.Coded.{refusal_code};
 ghost use Rattle.record.specs.Header.{setting, multiplier, header_refusal, keys_of, settings_of, counts_of, SmallCounts};
 ghost use Rattle.record.specs.Refusal.{field_refusal};
 ghost use Rattle.record.specs.Record.{places_of, NearPlaces};
 
 use crate::layout;
-use crate::refusal::{f32_at, f32_refusal, f64_at, f64_refusal, first, refuse};
-use bits::{is_short, read_bits};
+use crate::refusal::{f32_at, f64_at, float_refusal, refuse, whole};
+use bits::read_bits;
 use model::{Settings, limits};
-use rules::numbers;
+use rules::Refusal;
 
 // How many entries each list has.
 #[derive(Clone, Copy)]
@@ -29,52 +30,47 @@ pub struct Places {
     pub objects: usize,
 }
 
-fn setting_refusal(s: &[u8], at: usize) -> u8
+// This field and the next, by the range of each.
+fn setting_refusal(s: &[u8], at: usize) -> Result<(), Refusal>
     requires { at ≤ 1000000000 }
-    ensures { result ≡ field_refusal s.now (setting s.now at) }
+    ensures { refusal_code result ≡ field_refusal s.now (setting s.now at) }
 {
-    f32_refusal(
+    float_refusal(
         s,
         at,
         limits::LEAST_SETTING,
         limits::MOST_SETTING,
-        numbers::SETTING,
+        Refusal::Setting,
     )
 }
 
-fn multiplier_refusal(s: &[u8]) -> u8
-    ensures { result ≡ field_refusal s.now (multiplier s.now) }
+fn multiplier_refusal(s: &[u8]) -> Result<(), Refusal>
+    ensures { refusal_code result ≡ field_refusal s.now (multiplier s.now) }
 {
-    f64_refusal(
+    float_refusal(
         s,
         layout::MULTIPLIER,
         limits::LEAST_MULTIPLIER,
         limits::MOST_MULTIPLIER,
-        numbers::SETTING,
+        Refusal::Setting,
     )
 }
 
-pub fn header_refusal(s: &[u8]) -> u8
-    ensures { result ≡ header_refusal s.now }
+// The counts have no condition but that the last is whole.
+#[tactic(auto, using(crate::specs::Laws::Row::row_stop, crate::specs::Laws::Row::row_next, crate::proofs::Rows::header_row))]
+pub fn header_refusal(s: &[u8]) -> Result<(), Refusal>
+    ensures { refusal_code result ≡ header_refusal s.now }
 {
-    let version_short = refuse(is_short(s, layout::KEYS), numbers::FIELD_NOT_WHOLE);
-    let version = refuse(read_bits(s, layout::VERSION, 4) != 1, numbers::VERSION);
-    let keys_short = refuse(is_short(s, layout::HP), numbers::FIELD_NOT_WHOLE);
-    let keys = refuse(read_bits(s, layout::KEYS, 4) > 9, numbers::KEY_CHOICE);
-    let hp = setting_refusal(s, layout::HP);
-    let cs = setting_refusal(s, layout::CS);
-    let od = setting_refusal(s, layout::OD);
-    let ar = setting_refusal(s, layout::AR);
-    let multiplier = multiplier_refusal(s);
-    let counts = refuse(is_short(s, layout::BREAKS), numbers::FIELD_NOT_WHOLE);
-    let settings = first(
-        hp,
-        first(cs, first(od, first(ar, first(multiplier, counts)))),
-    );
-    first(
-        version_short,
-        first(version, first(keys_short, first(keys, settings))),
-    )
+    whole(s, layout::KEYS)?;
+    refuse(read_bits(s, layout::VERSION, 4) != 1, Refusal::Version)?;
+    whole(s, layout::HP)?;
+    refuse(read_bits(s, layout::KEYS, 4) > 9, Refusal::KeyChoice)?;
+    setting_refusal(s, layout::HP)?;
+    setting_refusal(s, layout::CS)?;
+    setting_refusal(s, layout::OD)?;
+    setting_refusal(s, layout::AR)?;
+    multiplier_refusal(s)?;
+    whole(s, layout::BREAKS)
 }
 
 pub fn keys_of(s: &[u8]) -> u8

@@ -22,10 +22,3 @@ pub struct Summary {
     pub last: f64,
     pub long: usize,
 }
-
-// The number of a refusal, or what the record is.
-#[derive(Clone, Copy)]
-pub enum Checked {
-    Refused(u8),
-    Accepted(Summary),
-}

@@ -8,9 +8,10 @@ pub struct ReadObject {
     pub next: usize,
 }
 
-// What the check of a record's objects finds: the number of a refusal, or the bit at which they end, the last start, and how many are sliders and spinners.
+// What the check of a record's objects finds: the bit at which they end, the last start, and how many are sliders and spinners.
 #[derive(Clone, Copy)]
-pub enum Scan {
-    Refused(u8),
-    Scanned { end: usize, last: f64, long: usize },
+pub struct Scanned {
+    pub end: usize,
+    pub last: f64,
+    pub long: usize,
 }

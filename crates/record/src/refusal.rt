@@ -1,57 +1,104 @@
-// A refusal is its number, and 0 where nothing is refused. A row of conditions is worked out whole: each is defined whatever the bytes are.
-ghost use Rattle.std.specs.Prelude.{◌≡◌, ◌≤◌};
-ghost use Rattle.record.specs.Refusal.{◌gives◌, ◌then◌, field, out32, out64, field_refusal, f32_at, f64_at};
+// The conditions of a record's fields, and the floats that they hold. What refuses a record is its first condition, in record order, that applies.
+ghost use Rattle.std.specs.Prelude.{◌≡◌, ◌≤◌, ℕ, not};
+ghost use Rattle.std.proofs.Common.{lit≤};
+ghost use Rattle.rules.specs.Coded.{code, refusal_code};
+ghost use Rattle.rules.specs.Numbers.{field_not_whole};
+ghost use Rattle.bits.specs.Field.{bits, short};
+ghost use Rattle.floats.specs.Range.{within, float};
+ghost use Rattle.record.specs.Refusal.{◌gives◌, field, field_refusal, f32_at, f64_at};
 
 use bits::{is_short, read_bits, read32};
-use floats::{pattern_f32, pattern_f64, within_f32, within_f64};
-use rules::numbers;
+use floats::{Float, pattern, within};
+use rules::Refusal;
 
-// The number n under the condition t.
-pub fn refuse(t: bool, n: u8) -> u8
-    ensures { result ≡ (t gives n) }
+// The refusal under the condition t.
+#[tactic(auto, using(crate::specs::Laws::Row::gives_yes, crate::specs::Laws::Row::gives_no))]
+pub fn refuse(t: bool, refusal: Refusal) -> Result<(), Refusal>
+    ensures { refusal_code result ≡ (t gives code refusal) }
 {
-    if t { n } else { 0 }
+    if t { Err(refusal) } else { Ok(()) }
 }
 
-// The first refusal, or the second where there is no first.
-pub fn first(a: u8, b: u8) -> u8
-    ensures { result ≡ (a then b) }
+// A field that ends at bit `end` is whole.
+pub fn whole(s: &[u8], end: usize) -> Result<(), Refusal>
+    requires { end ≤ 4294967296 }
+    ensures { refusal_code result ≡ (short s.now end gives field_not_whole) }
 {
-    if a == 0 { b } else { a }
+    refuse(is_short(s, end), Refusal::FieldNotWhole)
 }
 
-// The float field of 32 bits at bit `at`: 1 where it is not whole, n where it is not from lo to hi.
-pub fn f32_refusal(s: &[u8], at: usize, lo: f32, hi: f32, n: u8) -> u8
+// A type of floats that fields hold.
+pub trait Field: Float {
+    const WIDTH: usize;
+
+    ghost WIDTH: { ℕ };
+
+    fn pattern_at(s: &[u8], at: usize) -> Self::Bits
+        requires { at ≤ 1000000000 }
+        ensures { Self.number result ≡ bits s.now at WIDTH };
+
+    ghost narrow: { WIDTH ≤ 64 };
+}
+
+impl Field for f32 {
+    const WIDTH: usize = 32;
+
+    ghost WIDTH = { 32 };
+
+    ghost narrow = { lit≤ tt };
+
+    fn pattern_at(s: &[u8], at: usize) -> u32 {
+        read32(s, at)
+    }
+}
+
+impl Field for f64 {
+    const WIDTH: usize = 64;
+
+    ghost WIDTH = { 64 };
+
+    ghost narrow = { lit≤ tt };
+
+    fn pattern_at(s: &[u8], at: usize) -> u64 {
+        read_bits(s, at, 64)
+    }
+}
+
+// The float field at bit `at` is whole, and its value is from lo to hi.
+#[tactic(auto, using(crate::specs::Laws::Row::row_stop, crate::specs::Laws::Row::row_next))]
+pub fn float_refusal<F: Field>(
+    s: &[u8],
+    at: usize,
+    lo: F,
+    hi: F,
+    refusal: Refusal,
+) -> Result<(), Refusal>
     requires { at ≤ 1000000000 }
-    ensures { result ≡ field_refusal s.now (field at 32 (out32 s.now at (record { low = lo; high = hi })) n) }
+    ensures { refusal_code result ≡ field_refusal s.now (field at F.WIDTH (not (within F.format (F.value lo) (F.value hi) (bits s.now at F.WIDTH))) (code refusal)) }
 {
-    let whole = refuse(is_short(s, at + 32), numbers::FIELD_NOT_WHOLE);
-    let value = refuse(!within_f32(read32(s, at), lo, hi), n);
-    first(whole, value)
+    whole(s, at + F::WIDTH)?;
+    refuse(!within(F::pattern_at(s, at), lo, hi), refusal)
 }
 
-// The same of 64 bits.
-pub fn f64_refusal(s: &[u8], at: usize, lo: f64, hi: f64, n: u8) -> u8
+// The float field at bit `at`.
+pub fn float_at<F: Field>(s: &[u8], at: usize) -> F
     requires { at ≤ 1000000000 }
-    ensures { result ≡ field_refusal s.now (field at 64 (out64 s.now at (record { low = lo; high = hi })) n) }
+    ensures { F.value result ≡ float F.format (bits s.now at F.WIDTH) }
 {
-    let whole = refuse(is_short(s, at + 64), numbers::FIELD_NOT_WHOLE);
-    let value = refuse(!within_f64(read_bits(s, at, 64), lo, hi), n);
-    first(whole, value)
+    pattern(F::pattern_at(s, at))
 }
 
-// The float field of 32 bits at bit `at`.
+// `float_at` at each type, under the names of the definitions that contracts cite.
 pub fn f32_at(s: &[u8], at: usize) -> f32
     requires { at ≤ 1000000000 }
     ensures { result ≡ f32_at s.now at }
 {
-    pattern_f32(read32(s, at))
+    float_at(s, at)
 }
 
-// The float field of 64 bits at bit `at`.
 pub fn f64_at(s: &[u8], at: usize) -> f64
     requires { at ≤ 1000000000 }
     ensures { result ≡ f64_at s.now at }
 {
-    pattern_f64(read_bits(s, at, 64))
+    float_at(s, at)
 }

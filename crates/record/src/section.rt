@@ -2,16 +2,16 @@
 ghost use Rattle.std.specs.Prelude.{◌≡◌, false, ◌≤◌};
 ghost use Rattle.std.specs.Float.{binary64};
 ghost use Rattle.std.specs.Float.Ieee.{round};
+ghost use Rattle.rules.specs.Coded.{refusal_code};
 ghost use Rattle.model.specs.Limits.{most_entries};
 ghost use Rattle.model.specs.Totals.{break_time};
 ghost use Rattle.record.specs.Refusal.{field_refusal};
 ghost use Rattle.record.specs.Section.{width_of, time_field, beat_field, velocity_field, point_time, entry_refusal, section_refusal, no_time, breaks};
 
 use crate::layout;
-use crate::refusal::{f64_at, f64_refusal, first, refuse};
-use bits::is_short;
+use crate::refusal::{f64_at, float_refusal, refuse, whole};
 use model::limits;
-use rules::numbers;
+use rules::Refusal;
 
 // Below every time.
 const BEFORE_ALL: f64 = limits::LEAST_TIME - 1.0;
@@ -24,128 +24,112 @@ pub enum Section {
     EffectPoints,
 }
 
-// The bits of an entry.
-pub fn width_of(section: Section) -> usize
-    ensures { result ≡ width_of section }
-{
-    match section {
-        Section::Breaks => layout::ENTRY,
-        Section::TimingPoints => layout::ENTRY,
-        Section::DifficultyPoints => layout::ENTRY,
-        Section::EffectPoints => layout::EFFECT_ENTRY,
-    }
-}
-
-fn time_refusal(s: &[u8], at: usize) -> u8
+// The fields of the lists, each by its range.
+fn time_refusal(s: &[u8], at: usize) -> Result<(), Refusal>
     requires { at ≤ 1000000000 }
-    ensures { result ≡ field_refusal s.now (time_field s.now at) }
+    ensures { refusal_code result ≡ field_refusal s.now (time_field s.now at) }
 {
-    f64_refusal(
+    float_refusal(
         s,
         at,
         limits::LEAST_TIME,
         limits::MOST_TIME,
-        numbers::BREAK_OR_POINT,
+        Refusal::BreakOrPoint,
     )
 }
 
-fn beat_refusal(s: &[u8], at: usize) -> u8
+fn beat_refusal(s: &[u8], at: usize) -> Result<(), Refusal>
     requires { at ≤ 1000000000 }
-    ensures { result ≡ field_refusal s.now (beat_field s.now at) }
+    ensures { refusal_code result ≡ field_refusal s.now (beat_field s.now at) }
 {
-    f64_refusal(
+    float_refusal(
         s,
         at,
         limits::LEAST_BEAT,
         limits::MOST_BEAT,
-        numbers::BREAK_OR_POINT,
+        Refusal::BreakOrPoint,
     )
 }
 
-fn velocity_refusal(s: &[u8], at: usize) -> u8
+fn velocity_refusal(s: &[u8], at: usize) -> Result<(), Refusal>
     requires { at ≤ 1000000000 }
-    ensures { result ≡ field_refusal s.now (velocity_field s.now at) }
+    ensures { refusal_code result ≡ field_refusal s.now (velocity_field s.now at) }
 {
-    f64_refusal(
+    float_refusal(
         s,
         at,
         limits::LEAST_VELOCITY,
         limits::MOST_VELOCITY,
-        numbers::BREAK_OR_POINT,
+        Refusal::BreakOrPoint,
     )
 }
 
 // A point's time, after a point at the time `before`.
-fn rising_refusal(s: &[u8], at: usize, before: f64) -> u8
+#[tactic(auto, using(crate::specs::Laws::Row::row_stop, crate::specs::Laws::Row::row_next, crate::specs::Laws::Row::two_own))]
+fn rising_refusal(s: &[u8], at: usize, before: f64) -> Result<(), Refusal>
     requires { at ≤ 900000000 }
-    ensures { result ≡ field_refusal s.now (point_time s.now at before) }
+    ensures { refusal_code result ≡ field_refusal s.now (point_time s.now at before) }
 {
-    let time = time_refusal(s, at);
-    let order = refuse(!(before < f64_at(s, at)), numbers::BREAK_OR_POINT);
-    first(time, order)
+    time_refusal(s, at)?;
+    refuse(!(before < f64_at(s, at)), Refusal::BreakOrPoint)
 }
 
-fn break_refusal(s: &[u8], at: usize) -> u8
+#[tactic(auto, using(crate::specs::Laws::Row::row_stop, crate::specs::Laws::Row::row_next, crate::specs::Laws::Row::two_own, crate::specs::Laws::Row::then_zero), unfolding(crate::specs::Section::entry_refusal, crate::specs::Refusal::fields_refusal))]
+fn break_refusal(s: &[u8], at: usize) -> Result<(), Refusal>
     requires { at ≤ 900000000 }
-    ensures { result ≡ entry_refusal Section.Breaks s.now at no_time }
+    ensures { refusal_code result ≡ entry_refusal Section.Breaks s.now at no_time }
 {
-    let start = time_refusal(s, at);
-    let end = time_refusal(s, at + layout::SECOND);
-    let order = refuse(
-        f64_at(s, at + layout::SECOND) < f64_at(s, at),
-        numbers::BREAK_OR_POINT,
-    );
-    first(start, first(end, order))
+    let end = at + layout::SECOND;
+    time_refusal(s, at)?;
+    time_refusal(s, end)?;
+    refuse(f64_at(s, end) < f64_at(s, at), Refusal::BreakOrPoint)
 }
 
-// The entry at bit `at`, after one at the time `before`.
-fn entry_refusal(section: Section, s: &[u8], at: usize, before: f64) -> u8
-    requires { at ≤ 900000000 }
-    ensures { result ≡ entry_refusal section s.now at before }
-{
-    match section {
-        Section::Breaks => break_refusal(s, at),
-        Section::TimingPoints => first(
-            rising_refusal(s, at, before),
-            beat_refusal(s, at + layout::SECOND),
-        ),
-        Section::DifficultyPoints => {
-            first(
-                rising_refusal(s, at, before),
-                velocity_refusal(s, at + layout::SECOND),
-            )
-        }
-        Section::EffectPoints => {
-            first(
-                rising_refusal(s, at, before),
-                refuse(
-                    is_short(s, at + layout::EFFECT_ENTRY),
-                    numbers::FIELD_NOT_WHOLE,
-                ),
-            )
+impl Section {
+    // The bits of an entry.
+    pub fn width(self) -> usize
+        ensures { result ≡ width_of self }
+    {
+        match self {
+            Section::EffectPoints => layout::EFFECT_ENTRY,
+            _ => layout::ENTRY,
         }
     }
-}
 
-// `count` entries from bit `at` on.
-pub fn section_refusal(section: Section, s: &[u8], at: usize, count: usize) -> u8
-    requires { (at ≤ 100000000) × (count ≤ most_entries) }
-    ensures { result ≡ section_refusal section s.now at count }
-{
-    let width = width_of(section);
-    let mut here = at;
-    let mut before: f64 = BEFORE_ALL;
-    let mut left = count;
-    while left > 0 {
-        let refusal = entry_refusal(section, s, here, before);
-        if refusal != 0 {
-            return refusal;
+    // The entry at bit `at`, after one at the time `before`.
+    #[tactic(auto, using(crate::specs::Laws::Row::row_stop, crate::specs::Laws::Row::row_next, crate::specs::Laws::Row::then_zero), unfolding(crate::specs::Section::entry_refusal, crate::specs::Refusal::fields_refusal))]
+    fn entry_refusal(self, s: &[u8], at: usize, before: f64) -> Result<(), Refusal>
+        requires { at ≤ 900000000 }
+        ensures { refusal_code result ≡ entry_refusal self s.now at before }
+    {
+        let second = at + layout::SECOND;
+        if let Section::Breaks = self {
+            return break_refusal(s, at);
         }
-        before = f64_at(s, here);
-        here += width;
-        left -= 1;
+        rising_refusal(s, at, before)?;
+        match self {
+            Section::TimingPoints => beat_refusal(s, second),
+            Section::DifficultyPoints => velocity_refusal(s, second),
+            _ => whole(s, at + layout::EFFECT_ENTRY),
+        }
     }
-    0
+
+    // `count` entries from bit `at` on.
+    #[tactic(auto, using(crate::specs::Laws::Entries::list_stop, crate::specs::Laws::Entries::list_done))]
+    pub fn refusal(self, s: &[u8], at: usize, count: usize) -> Result<(), Refusal>
+        requires { (at ≤ 100000000) × (count ≤ most_entries) }
+        ensures { refusal_code result ≡ section_refusal self s.now at count }
+    {
+        let width = self.width();
+        let mut here = at;
+        let mut before: f64 = BEFORE_ALL;
+        for _ in 0..count {
+            self.entry_refusal(s, here, before)?;
+            before = f64_at(s, here);
+            here += width;
+        }
+        Ok(())
+    }
 }
 
 // How long `count` breaks from bit `at` on last together, summed in order from 0.
@@ -155,13 +139,11 @@ pub fn total_break_time(s: &[u8], at: usize, count: usize) -> f64
 {
     let mut here = at;
     let mut sum: f64 = 0.0;
-    let mut left = count;
-    while left > 0 {
+    for _ in 0..count {
         let end = f64_at(s, here + layout::SECOND);
         let start = f64_at(s, here);
         sum = sum + (end - start);
         here += layout::ENTRY;
-        left -= 1;
     }
     sum
 }

@@ -1,3 +1,3 @@
--- The last cases of definitions by number (`Objects`), and the check of the objects (`Scans`).
+-- What flags decide and the rows of an object's conditions (`Objects`), and the check of the objects (`Scans`).
 pub mod Objects
 pub mod Scans

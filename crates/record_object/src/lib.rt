@@ -1,20 +1,50 @@
 // Objects: their check, and their values.
 #![tactic(auto)]
 
-ghost use Rattle.std.specs.Prelude.{◌≡◌, ◌≤◌, ◌+◌, ◌*◌};
+ghost use Rattle.std.specs.Prelude.{◌≡◌, ◌≤◌, ◌+◌, ◌*◌, eqb};
+ghost use Rattle.rules.specs.Coded.{refusal_code};
 ghost use Rattle.model.specs.Limits.{most_entries};
 ghost use Rattle.bits.specs.Field.{bits};
 ghost use Rattle.record.specs.Layout as At;
 ghost use Rattle.record.specs.Refusal.{field_refusal, fields_refusal};
-ghost use Rattle.record.specs.Object.{node_bit, slider_end, distance_by, node_by, slider_at, kind_by, span_field, coordinate, distance_fields, repeats_field, slider_fields, kind_fields, read_object, object_end, read_at, object_refusal, scan};
-ghost use Rattle.record.specs.Post.{is_long, EndBy};
+ghost use Rattle.record.specs.Object.{node_bit, slider_end, slider_at, kind_by, span_field, coordinate, distance_fields, repeats_field, slider_fields, kind_fields, read_object, object_end, read_at, object_refusal, scan};
+ghost use Rattle.record.specs.Post.{is_long, EndBy, coded};
+ghost use Rattle.record_object.specs.Shape.{number};
 
-use bits::{is_short, read_bits, read_flag};
-use model::{Distance, Kind, NodeSound, Object, Position, limits};
+use bits::{read_bits, read_flag};
+use model::{Kind, Object, Position, limits};
 use record::layout;
-use record::objects::{ReadObject, Scan};
-use record::refusal::{f32_at, f32_refusal, f64_at, f64_refusal, first, refuse};
-use rules::numbers;
+use record::objects::{ReadObject, Scanned};
+use record::refusal::{f32_at, f64_at, float_refusal, refuse, whole};
+use rules::Refusal;
+
+// The kind that an object's first field says, without what it carries.
+#[derive(Clone, Copy)]
+enum Shape {
+    Circle,
+    Slider,
+    Spinner,
+    Hold,
+}
+
+#[tactic(auto, using(bits::specs::Laws::Fields::bits_lt))]
+fn shape_at(s: &[u8], at: usize) -> Shape
+    requires { at ≤ 1000000000 }
+    ensures { number result ≡ bits s.now at 2 }
+{
+    match read_bits(s, at, 2) {
+        0 => Shape::Circle,
+        1 => Shape::Slider,
+        2 => Shape::Spinner,
+        _ => Shape::Hold,
+    }
+}
+
+fn is_long(shape: Shape) -> bool
+    ensures { result ≡ eqb (is_long (number shape)) 1 }
+{
+    matches!(shape, Shape::Slider | Shape::Spinner)
+}
 
 fn read_sound(s: &[u8], at: usize) -> u8
     requires { at ≤ 1000000000 }
@@ -31,55 +61,35 @@ fn read_repeats(s: &[u8], at: usize) -> u16
 }
 
 // Of a slider at bit `at` of its own part: the bit before the first node sound.
+#[tactic(auto, using(crate::proofs::Objects::flag_value), unfolding(record::specs::Object::node_bit))]
 fn node_bit(s: &[u8], at: usize) -> usize
     requires { at ≤ 900000000 }
     ensures { (result ≡ node_bit s.now at) × (result ≤ at + 75) }
 {
     let given = read_flag(s, at + layout::IS_GIVEN);
-    at + layout::DISTANCE + 64 * given
+    at + layout::DISTANCE + 64 * usize::from(given)
 }
 
+#[tactic(auto, using(crate::proofs::Objects::flag_value), unfolding(record::specs::Object::slider_end))]
 fn slider_end(s: &[u8], at: usize) -> usize
     requires { at ≤ 900000000 }
     ensures { (result ≡ slider_end s.now at) × (result ≤ at + 80) }
 {
     let node = node_bit(s, at);
     let given = read_flag(s, node);
-    node + 1 + 4 * given
+    node + 1 + 4 * usize::from(given)
 }
 
-fn distance_by(s: &[u8], at: usize, given: usize) -> Distance
-    requires { at ≤ 1000000000 }
-    ensures { result ≡ distance_by s.now at given }
-{
-    if given == 0 {
-        return Distance::Missing;
-    }
-    Distance::Given(f64_at(s, at))
-}
-
-fn node_by(s: &[u8], at: usize, given: usize) -> NodeSound
-    requires { at ≤ 1000000000 }
-    ensures { result ≡ node_by s.now at given }
-{
-    if given == 0 {
-        return NodeSound::Missing;
-    }
-    NodeSound::Given(read_sound(s, at))
-}
-
+#[tactic(auto, using(crate::proofs::Objects::distance_flag, crate::proofs::Objects::node_flag), unfolding(record::specs::Object::slider_at))]
 fn slider_at(s: &[u8], at: usize) -> Kind
     requires { at ≤ 900000000 }
     ensures { result ≡ slider_at s.now at }
 {
     let repeats = read_repeats(s, at);
-    let distance = distance_by(
-        s,
-        at + layout::DISTANCE,
-        read_flag(s, at + layout::IS_GIVEN),
-    );
+    let given = read_flag(s, at + layout::IS_GIVEN);
+    let distance = given.then(|| f64_at(s, at + layout::DISTANCE));
     let bit = node_bit(s, at);
-    let node = node_by(s, bit + 1, read_flag(s, bit));
+    let node = read_flag(s, bit).then(|| read_sound(s, bit + 1));
     Kind::Slider {
         repeats,
         distance,
@@ -87,15 +97,16 @@ fn slider_at(s: &[u8], at: usize) -> Kind
     }
 }
 
-fn kind_by(s: &[u8], at: usize, kind: u64) -> Kind
+#[tactic(auto, unfolding(record::specs::Object::kind_by))]
+fn kind_by(s: &[u8], at: usize, shape: Shape) -> Kind
     requires { at ≤ 900000000 }
-    ensures { result ≡ kind_by s.now at kind }
+    ensures { result ≡ kind_by s.now at (number shape) }
 {
-    match kind {
-        0 => Kind::Circle,
-        1 => slider_at(s, at),
-        2 => Kind::Spinner(f64_at(s, at)),
-        _ => Kind::Hold(f64_at(s, at)),
+    match shape {
+        Shape::Circle => Kind::Circle,
+        Shape::Slider => slider_at(s, at),
+        Shape::Spinner => Kind::Spinner(f64_at(s, at)),
+        Shape::Hold => Kind::Hold(f64_at(s, at)),
     }
 }
 
@@ -108,7 +119,7 @@ fn object_at(s: &[u8], at: usize) -> Object
     let x = f32_at(s, at + layout::X);
     let y = f32_at(s, at + layout::Y);
     let start = f64_at(s, at + layout::START);
-    let kind = kind_by(s, at + layout::ADDED, read_bits(s, at, 2));
+    let kind = kind_by(s, at + layout::ADDED, shape_at(s, at));
     let position = Position { x, y };
     Object {
         position,
@@ -119,14 +130,14 @@ fn object_at(s: &[u8], at: usize) -> Object
 }
 
 // Where the object at bit `at` ends.
+#[tactic(auto, unfolding(record::specs::Object::object_end, record::specs::Object::kind_end))]
 fn object_end(s: &[u8], at: usize) -> usize
     requires { at ≤ 800000000 }
     ensures { (result ≡ object_end s.now at) × (result ≤ at + At.longest) }
 {
-    let kind = read_bits(s, at, 2);
-    match kind {
-        0 => at + layout::ADDED,
-        1 => slider_end(s, at + layout::ADDED),
+    match shape_at(s, at) {
+        Shape::Circle => at + layout::ADDED,
+        Shape::Slider => slider_end(s, at + layout::ADDED),
         _ => at + layout::DURATION_END,
     }
 }
@@ -141,139 +152,115 @@ pub fn read_object(part: &[u8], at: usize) -> ReadObject
     ReadObject { object, next }
 }
 
-// A start or a duration.
-fn span_refusal(s: &[u8], at: usize) -> u8
+// A start or a duration, by its range; so below for x and y, and a distance.
+fn span_refusal(s: &[u8], at: usize) -> Result<(), Refusal>
     requires { at ≤ 1000000000 }
-    ensures { result ≡ field_refusal s.now (span_field s.now at) }
+    ensures { refusal_code result ≡ field_refusal s.now (span_field s.now at) }
 {
-    f64_refusal(
+    float_refusal(
         s,
         at,
         limits::LEAST_SPAN,
         limits::MOST_SPAN,
-        numbers::OBJECT,
+        Refusal::Object,
     )
 }
 
-fn distance_refusal(s: &[u8], at: usize, given: usize) -> u8
-    requires { at ≤ 1000000000 }
-    ensures { result ≡ fields_refusal s.now (distance_fields s.now at given) }
+// A slider's distance, where the bit before it is set.
+#[tactic(auto, using(crate::proofs::Objects::distance_row))]
+fn distance_refusal(s: &[u8], at: usize) -> Result<(), Refusal>
+    requires { at ≤ 900000000 }
+    ensures { refusal_code result ≡ fields_refusal s.now (distance_fields s.now (at + At.distance) (bits s.now (at + At.is_given) 1)) }
 {
-    if given == 0 {
-        0
-    } else {
-        f64_refusal(
-            s,
-            at,
-            limits::LEAST_DISTANCE,
-            limits::MOST_DISTANCE,
-            numbers::OBJECT,
-        )
+    if !read_flag(s, at + layout::IS_GIVEN) {
+        return Ok(());
     }
+    float_refusal(
+        s,
+        at + layout::DISTANCE,
+        limits::LEAST_DISTANCE,
+        limits::MOST_DISTANCE,
+        Refusal::Object,
+    )
 }
 
-fn position_refusal(s: &[u8], at: usize) -> u8
+fn position_refusal(s: &[u8], at: usize) -> Result<(), Refusal>
     requires { at ≤ 1000000000 }
-    ensures { result ≡ field_refusal s.now (coordinate s.now at) }
+    ensures { refusal_code result ≡ field_refusal s.now (coordinate s.now at) }
 {
-    f32_refusal(
+    float_refusal(
         s,
         at,
         limits::LEAST_COORDINATE,
         limits::MOST_COORDINATE,
-        numbers::OBJECT,
+        Refusal::Object,
     )
 }
 
-fn repeats_refusal(s: &[u8], at: usize) -> u8
+#[tactic(auto, using(record::specs::Laws::Row::row_stop, record::specs::Laws::Row::row_next))]
+fn repeats_refusal(s: &[u8], at: usize) -> Result<(), Refusal>
     requires { at ≤ 900000000 }
-    ensures { result ≡ field_refusal s.now (repeats_field s.now at) }
+    ensures { refusal_code result ≡ field_refusal s.now (repeats_field s.now at) }
 {
-    let whole = refuse(
-        is_short(s, at + layout::REPEATS_WIDTH),
-        numbers::FIELD_NOT_WHOLE,
-    );
-    let many = refuse(limits::MOST_REPEATS < read_repeats(s, at), numbers::OBJECT);
-    first(whole, many)
+    whole(s, at + layout::REPEATS_WIDTH)?;
+    refuse(limits::MOST_REPEATS < read_repeats(s, at), Refusal::Object)
 }
 
-fn slider_refusal(s: &[u8], at: usize) -> u8
+#[tactic(auto, using(record::specs::Laws::Row::row_stop, record::specs::Laws::Row::row_next, crate::proofs::Objects::slider_row))]
+fn slider_refusal(s: &[u8], at: usize) -> Result<(), Refusal>
     requires { at ≤ 900000000 }
-    ensures { result ≡ fields_refusal s.now (slider_fields s.now at) }
+    ensures { refusal_code result ≡ fields_refusal s.now (slider_fields s.now at) }
 {
-    let repeats = repeats_refusal(s, at);
-    let given = refuse(is_short(s, at + layout::DISTANCE), numbers::FIELD_NOT_WHOLE);
-    let distance = distance_refusal(
-        s,
-        at + layout::DISTANCE,
-        read_flag(s, at + layout::IS_GIVEN),
-    );
-    let node = refuse(is_short(s, node_bit(s, at) + 1), numbers::FIELD_NOT_WHOLE);
-    let sound = refuse(is_short(s, slider_end(s, at)), numbers::FIELD_NOT_WHOLE);
-    first(repeats, first(given, first(distance, first(node, sound))))
+    repeats_refusal(s, at)?;
+    whole(s, at + layout::DISTANCE)?;
+    distance_refusal(s, at)?;
+    whole(s, node_bit(s, at) + 1)?;
+    whole(s, slider_end(s, at))
 }
 
-fn kind_refusal(s: &[u8], at: usize, kind: u64) -> u8
+#[tactic(auto, using(crate::proofs::Objects::span_row, crate::proofs::Objects::circle_row))]
+fn kind_refusal(s: &[u8], at: usize, shape: Shape) -> Result<(), Refusal>
     requires { at ≤ 900000000 }
-    ensures { result ≡ fields_refusal s.now (kind_fields s.now at kind) }
+    ensures { refusal_code result ≡ fields_refusal s.now (kind_fields s.now at (number shape)) }
 {
-    match kind {
-        0 => 0,
-        1 => slider_refusal(s, at),
+    match shape {
+        Shape::Circle => Ok(()),
+        Shape::Slider => slider_refusal(s, at),
         _ => span_refusal(s, at),
     }
 }
 
 // The object at bit `at`, after one that starts at `before`.
-fn object_refusal(s: &[u8], at: usize, before: f64) -> u8
+#[tactic(auto, using(record::specs::Laws::Row::row_stop, record::specs::Laws::Row::row_next, crate::proofs::Objects::object_row), unfolding(record::specs::Object::start_at))]
+fn object_refusal(s: &[u8], at: usize, before: f64) -> Result<(), Refusal>
     requires { at ≤ 800000000 }
-    ensures { result ≡ object_refusal s.now at before }
+    ensures { refusal_code result ≡ object_refusal s.now at before }
 {
-    let whole = refuse(is_short(s, at + layout::X), numbers::FIELD_NOT_WHOLE);
-    let x = position_refusal(s, at + layout::X);
-    let y = position_refusal(s, at + layout::Y);
-    let start = span_refusal(s, at + layout::START);
-    let order = refuse(f64_at(s, at + layout::START) < before, numbers::OBJECT);
-    let kind = kind_refusal(s, at + layout::ADDED, read_bits(s, at, 2));
-    first(whole, first(x, first(y, first(start, first(order, kind)))))
-}
-
-// 1 for a slider and a spinner, by the kind's number.
-fn is_long(s: &[u8], at: usize) -> usize
-    requires { at ≤ 800000000 }
-    ensures { (result ≡ is_long (bits s.now at 2)) × (result ≤ 1) }
-{
-    let kind = read_bits(s, at, 2);
-    match kind {
-        0 => 0,
-        1 => 1,
-        2 => 1,
-        _ => 0,
-    }
+    whole(s, at + layout::X)?;
+    position_refusal(s, at + layout::X)?;
+    position_refusal(s, at + layout::Y)?;
+    span_refusal(s, at + layout::START)?;
+    refuse(f64_at(s, at + layout::START) < before, Refusal::Object)?;
+    kind_refusal(s, at + layout::ADDED, shape_at(s, at))
 }
 
 // `count` objects from bit `at` on.
-pub fn scan_objects(s: &[u8], at: usize, count: usize) -> Scan
+pub fn scan_objects(s: &[u8], at: usize, count: usize) -> Result<Scanned, Refusal>
     requires { (at ≤ 100000000) × (count ≤ most_entries) }
-    ensures { (result ≡ scan s.now at count) × EndBy (at + At.longest * count) result }
+    ensures { (coded result ≡ scan s.now at count) × EndBy (at + At.longest * count) result }
 {
     let mut here = at;
     let mut last: f64 = 0.0;
     let mut long = 0;
-    let mut left = count;
-    while left > 0 {
-        let refusal = object_refusal(s, here, last);
-        if refusal != 0 {
-            return Scan::Refused(refusal);
-        }
+    for _ in 0..count {
+        object_refusal(s, here, last)?;
         last = f64_at(s, here + layout::START);
-        long += is_long(s, here);
+        long += usize::from(is_long(shape_at(s, here)));
         here = object_end(s, here);
-        left -= 1;
     }
-    Scan::Scanned {
+    Ok(Scanned {
         end: here,
         last,
         long,
-    }
+    })
 }

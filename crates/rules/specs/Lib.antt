@@ -2,6 +2,7 @@
 -- searches (`Ledger`), the limit of its searches (`Limited`), and what holds of each element of a list (`Each`, `Laws`). What holds of every rule is in proofs/.
 pub mod Rule
 pub mod Numbers
+pub mod Coded
 pub mod Refusal
 pub mod Ledger
 pub mod Limited

@@ -1,4 +1,4 @@
--- The numbers of the refusals, in documents 01 and 02. src/numbers.rt has the same, and so has include/sumopine.h, to which the gate holds them.
+-- The numbers of the refusals, in documents 01 and 02. The enum of src/lib.rt has the same, and so has include/sumopine.h, to which the gate holds them.
 -- Assumes nothing.
 use Rattle.std.specs.Prelude.{ℕ}
 

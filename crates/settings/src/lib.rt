@@ -16,25 +16,20 @@ pub fn seed(s: Settings) -> u32
     requires { Accepted s }
     ensures { result ≡ Convert.seed s }
 {
-    let hp_cs = floats::to_count_f32(s.hp + s.cs, Way::Even);
-    let od = floats::to_count_f32(s.od * 41.2, Way::Cut);
-    let ar = floats::to_count_f32(s.ar, Way::Even);
+    let hp_cs = floats::to_count(s.hp + s.cs, Way::Even);
+    let od = floats::to_count(s.od * 41.2, Way::Cut);
+    let ar = floats::to_count(s.ar, Way::Even);
     hp_cs * 20 + od + ar
 }
 
 // ---- the columns
 
 // By od alone: od + 1, from 4 to 7.
+#[tactic(auto, unfolding(mania::specs::Convert::columns_by_od))]
 fn columns_by_od(od: u32) -> u8
     ensures { result ≡ columns_by_od od }
 {
-    if od < 4 {
-        4
-    } else if od < 7 {
-        (od + 1) as u8
-    } else {
-        7
-    }
+    od.clamp(3, 6) as u8 + 1
 }
 
 // The larger of two counts where od is above a bound.
@@ -61,25 +56,28 @@ fn columns_by_share(share: f64, cs: u32, od: u32) -> u8
 }
 
 // `target_columns` without a key choice, from cs and od rounded: `long` of the objects are sliders or spinners.
+#[tactic(auto, unfolding(mania::specs::Convert::columns_at))]
 pub fn columns_at(cs: u32, od: u32, long: u32, objects: u32) -> u8
     ensures { result ≡ columns_at long objects cs od }
 {
     if objects == 0 {
         return columns_by_od(od);
     }
-    columns_by_share((long as f64) / (objects as f64), cs, od)
+    columns_by_share(f64::from(long) / f64::from(objects), cs, od)
 }
 
 // `target_columns` without a key choice, from the settings.
+#[tactic(auto, unfolding(mania::specs::Convert::columns_by))]
 pub fn target_columns(s: Settings, long: u32, objects: u32) -> u8
     ensures { result ≡ columns_by s long objects }
 {
-    let cs = floats::to_count_f32(s.cs, Way::Even);
-    let od = floats::to_count_f32(s.od, Way::Even);
+    let cs = floats::to_count(s.cs, Way::Even);
+    let od = floats::to_count(s.od, Way::Even);
     columns_at(cs, od, long, objects)
 }
 
-// The key choice, else `target_columns`.
+// The key choice, else `target_columns`. No choice is 0, as the record has it and `keys_or` reads it: an option here would be made of that number, for one test.
+#[tactic(auto, unfolding(mania::specs::Convert::keys_or))]
 pub fn columns_of(key: u8, s: Settings, long: u32, objects: u32) -> u8
     ensures { result ≡ keys_or key (columns_by s long objects) }
 {
@@ -92,6 +90,7 @@ pub fn columns_of(key: u8, s: Settings, long: u32, objects: u32) -> u8
 // ---- the conversion difficulty
 
 // 10,000 in place of 0.
+#[tactic(auto, unfolding(mania::specs::PatternGenerator::or_ten_thousand))]
 fn or_ten_thousand(n: i32) -> i32
     ensures { result ≡ or_ten_thousand n }
 {
@@ -109,8 +108,8 @@ fn drain_time(breaks: f64, first: f64, last: f64) -> i32
 pub fn conversion_difficulty(s: Settings, breaks: f64, first: f64, last: f64, objects: u32) -> f64
     ensures { result ≡ difficulty_by s breaks first last objects }
 {
-    let drain = drain_time(breaks, first, last);
-    let life = std::num::f32_to_f64_with_nan(s.hp + floats::clamp_f32(4.0, 7.0, s.ar)) / 1.5;
-    let pace = (objects as f64) / (drain as f64) * 9.0;
+    let drain = f64::from(drain_time(breaks, first, last));
+    let life = f64::from(s.hp + s.ar.clamp(4.0, 7.0)) / 1.5;
+    let pace = f64::from(objects) / drain * 9.0;
     floats::min((life + pace) / 38.0 * 5.0 / 1.15, MOST_DIFFICULTY)
 }

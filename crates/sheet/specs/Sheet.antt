@@ -1,17 +1,17 @@
 -- The chart sheet: its text, and the answer of putting it into a lent buffer.
 -- Assumes nothing.
-use Rattle.std.specs.Prelude.{Bool, cond, List, [], ◌∷◌, ◌++◌, ℕ, zero, suc, ◌+◌, ◌-◌, ◌*◌, ◌/◌, ◌%◌, ◌^◌, max, leb, eqb, length, drop, replicate}
+use Rattle.std.specs.Prelude.{Bool, cond, List, [], ◌∷◌, ◌++◌, ℕ, zero, suc, ◌+◌, ◌-◌, ◌*◌, ◌/◌, ◌%◌, ◌^◌, max, leb, eqb, length, drop, replicate, Result, Ok, Err}
 use Rattle.std.proofs.Math.Option.{Option, none, some}
 use Prim.Native.Char.{code}
 use Rattle.rules.specs.Numbers as Numbers
+use Rattle.rules.specs.Coded as Coded
+use Rattle.rules.specs.declared.Refusal.{Refusal}
 use Rattle.floats.specs.Ticks.{ticks}
 use Rattle.chart.specs.declared.Note.{Note}
 use Rattle.chart.specs.Time.{time}
 use Rattle.chart.specs.Bytes.{splice}
 use Rattle.chart.specs.Chart.{Score, decode}
 use Rattle.text.specs.Text.{ascii, space, right, left}
-use Rattle.sheet.specs.declared.Put.{Put}
-use Rattle.sheet.specs.declared.Put.TheVariants.{Length, Refused}
 use Rattle.sheet.specs.Layout.{page_lines, page_notes, line_width, number_width, word_width, start_width}
 
 -- ---- a note's line
@@ -75,9 +75,9 @@ pub data Outcome : Type 0 where
   written : ℕ → Outcome
 
 -- the meaning of each case of the code's answer
-abbrev pub told : Put → Outcome
-told (Length n) = written n
-told (Refused n) = refused n
+abbrev pub told : Result ℕ Refusal → Outcome
+told (Ok n) = written n
+told (Err r) = refused (Coded.code r)
 
 -- the answer, and the buffer afterwards: later bytes keep their values, and on a refusal all do
 unfoldable pub given : List ℕ → List ℕ → Outcome × List ℕ

@@ -11,31 +11,21 @@ ghost use Rattle.sheet.specs.Layout.{page_lines, line_width, line_size};
 ghost use Rattle.sheet.specs.Sheet.{milliseconds, mark, note_text, head_text, text_at, line_at, lines, pages, told, given, sheeted};
 ghost use Rattle.sheet.specs.Fits.{StartFits, NoteFits, Fits};
 
-use chart::{Answer, Note};
+use chart::Note;
 use chart_reader::{note_of, read};
 use floats::{Way, to_count};
 use layout::{
     LINE_SIZE, LINE_WIDTH, NUMBER_WIDTH, PAGE_LINES, PAGE_NOTES, START_WIDTH, WORD_WIDTH,
 };
-use rules::numbers;
+use rules::Refusal;
 use text::{put_right, put_run, put_word};
-
-// What becomes of a sheet: its length in bytes, or a refusal's number.
-#[derive(Clone, Copy)]
-pub enum Put {
-    Length(usize),
-    Refused(u8),
-}
 
 // How many pages so many notes take.
 fn pages_of(count: u32) -> u32
     requires { count ≤ most_in_chart }
     ensures { result ≡ pages count }
 {
-    if count == 0 {
-        return 1;
-    }
-    (count + (PAGE_NOTES - 1)) / PAGE_NOTES
+    count.div_ceil(PAGE_NOTES).max(1)
 }
 
 // A start in whole milliseconds, cut downward.
@@ -111,38 +101,29 @@ fn put_lines(chart: &[u8], columns: u32, count: u32, end: u32, s: &mut [u8])
     requires { Fits columns (notes_in chart.now) × (count ≡ length (notes_in chart.now)) × (end ≤ page_lines * pages count) × (line_size * end ≤ length s.old) }
     ensures { s.new ≡ splice s.old 0 (lines columns (notes_in chart.now) end) }
 {
-    let mut i = 0;
-    while i < end {
+    for i in 0..end {
         put_line(chart, columns, count, i, s);
-        i += 1;
     }
 }
 
 // The sheet of a chart that was read.
-fn put_read(chart: &[u8], columns: u32, count: u32, s: &mut [u8]) -> Put
+fn put_read(chart: &[u8], columns: u32, count: u32, s: &mut [u8]) -> Result<usize, Refusal>
     requires { Fits columns (notes_in chart.now) × (count ≡ length (notes_in chart.now)) }
     ensures { (told result, s.new) ≡ given (lines columns (notes_in chart.now) (page_lines * pages count)) s.old }
 {
     let end = PAGE_LINES * pages_of(count);
     let size = LINE_SIZE * (end as usize);
     if s.len() < size {
-        return Put::Refused(numbers::SHEET_TOO_SHORT);
+        return Err(Refusal::SheetTooShort);
     }
     put_lines(chart, columns, count, end, s);
-    Put::Length(size)
+    Ok(size)
 }
 
-// Stores a chart's sheet from the start of the buffer. Later bytes keep their values; on a refusal all do.
-pub fn put_sheet(chart: &[u8], s: &mut [u8]) -> Put
+// Stores a chart's sheet from the start of the buffer, and gives its length. Later bytes keep their values; on a refusal all do.
+pub fn put_sheet(chart: &[u8], s: &mut [u8]) -> Result<usize, Refusal>
     ensures { (told result, s.new) ≡ sheeted chart.now s.old }
 {
-    match read(chart) {
-        Answer::Chart {
-            version: _,
-            columns,
-            notes,
-            draws: _,
-        } => put_read(chart, columns, notes, s),
-        Answer::Refused => Put::Refused(numbers::BROKEN_CHART),
-    }
+    let header = read(chart)?;
+    put_read(chart, header.columns, header.notes, s)
 }

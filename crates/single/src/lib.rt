@@ -10,46 +10,59 @@ use chart::layout::NOTE_SIZE;
 use mania::{Facts, PrevValues, Stair};
 use model::Object;
 use model::limits::MOST_NOTES;
-use pattern::{ObjectEnd, Pattern};
+use pattern::Made;
 use random::{Draws, Random, Tally};
-use rules::numbers;
+use rules::Refusal;
 
-// How the entry ends: the number of notes, the new mask, last column and stair, the state and the draws; or a refusal's number and the state that was lent.
+// What an object made: the number of notes, the new mask, last column and stair, the state and the draws.
 #[derive(Clone, Copy)]
-pub enum SingleEnd {
-    Made(u32, u16, u8, Stair, Random, u32),
-    Refused(u8, Random),
+pub struct Converted {
+    pub count: u32,
+    pub mask: u16,
+    pub last: u8,
+    pub stair: Stair,
+    pub random: Random,
+    pub draws: u32,
+}
+
+// A refusal, and the state that was lent.
+#[derive(Clone, Copy)]
+pub struct ObjectRefused {
+    pub refusal: Refusal,
+    pub random: Random,
 }
 
 // Writes the notes that an object made, where the buffer has room for them.
 fn keep(
     o: Object,
     words: &[u64],
-    p: Pattern,
-    stair: Stair,
+    made: Made,
     lent: Random,
     allowance: u32,
     e: Draws,
     notes: &mut [u8],
-) -> SingleEnd
-    requires { (p.count ≤ most_notes) × (most_notes ≤ length words.now) × (e.tally.left ≤ allowance) }
-    ensures { Keeps notes.old notes.new words.now o p stair lent allowance e result }
+) -> Result<Converted, ObjectRefused>
+    requires { (made.pattern.count ≤ most_notes) × (most_notes ≤ length words.now) × (e.tally.left ≤ allowance) }
+    ensures { Keeps notes.old notes.new words.now o made lent allowance e result }
 {
+    let p = made.pattern;
     let count = p.count;
     if notes.len() < NOTE_SIZE * count {
-        return SingleEnd::Refused(numbers::CHART_TOO_SHORT, lent);
+        return Err(ObjectRefused {
+            refusal: Refusal::ChartTooShort,
+            random: lent,
+        });
     }
     notes::put_notes(0, o, words, count, notes, 0);
-    let random = e.random;
     let after = e.tally;
-    SingleEnd::Made(
-        count as u32,
-        p.mask,
-        p.last,
-        stair,
-        random,
-        allowance - after.left,
-    )
+    Ok(Converted {
+        count: count as u32,
+        mask: p.mask,
+        last: p.last,
+        stair: made.stair,
+        random: e.random,
+        draws: allowance - after.left,
+    })
 }
 
 // The rule of an object that passed the checks.
@@ -61,7 +74,7 @@ fn generate(
     lent: Random,
     allowance: u32,
     notes: &mut [u8],
-) -> SingleEnd
+) -> Result<Converted, ObjectRefused>
     requires { entry_refusal f v columns o ≡ 0 }
     ensures { single_end notes.new result ≡ single_object f v columns o lent allowance notes.old }
 {
@@ -76,8 +89,11 @@ fn generate(
         tally,
     };
     match object::generate(f, v, columns, o, &mut words, &mut spare, d) {
-        ObjectEnd::Made(p, stair, e) => keep(o, &words, p, stair, lent, allowance, e, notes),
-        ObjectEnd::Refused(n, e) => SingleEnd::Refused(n, lent),
+        Ok((made, e)) => keep(o, &words, made, lent, allowance, e, notes),
+        Err(refused) => Err(ObjectRefused {
+            refusal: refused.refusal,
+            random: lent,
+        }),
     }
 }
 
@@ -90,12 +106,14 @@ pub fn convert_object(
     lent: Random,
     allowance: u32,
     notes: &mut [u8],
-) -> SingleEnd
+) -> Result<Converted, ObjectRefused>
     ensures { single_end notes.new result ≡ single_object f v columns o lent allowance notes.old }
 {
-    let number = entry::entry_refusal(f, v, columns, o);
-    if number != 0 {
-        return SingleEnd::Refused(number, lent);
+    match entry::entry_refusal(f, v, columns, o) {
+        Ok(()) => generate(f, v, columns, o, lent, allowance, notes),
+        Err(refusal) => Err(ObjectRefused {
+            refusal,
+            random: lent,
+        }),
     }
-    generate(f, v, columns, o, lent, allowance, notes)
 }

@@ -28,14 +28,6 @@ other_lt columns interval c h k = go (ltb (c + interval) (columns - random_start
     go true e = omega (arith, ltb-true (c + interval) (columns - random_start columns) e, start_legacy columns)
     go false e = omega arith
 
-pub start_one : (columns : ℕ) → random_start columns ≤ 1
-unfolding random_start
-start_one columns = go (eqb columns 8)
-  where
-    go : (b : Bool) → (if b then 1 else 0) ≤ 1
-    go true = omega arith
-    go false = omega arith
-
 pub start_two : (columns : ℕ) → 2 ≤ columns → random_start columns + 1 < columns
 unfolding random_start
 start_two columns h = go (eqb columns 8) refl

@@ -2,3 +2,4 @@ pub mod Words
 pub mod Decks
 pub mod Loops
 pub mod Order
+pub mod Ends

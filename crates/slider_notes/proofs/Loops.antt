@@ -22,14 +22,18 @@ use Rattle.mania.specs.PathObject.{add_slider_note, any_column, find_column, add
 use Rattle.pattern.specs.Answers.{pattern}
 use Rattle.slider_notes.specs.Words.{of_word, slider_note, Put, PutOther, rises}
 use Rattle.pattern.specs.declared.Pattern as Lent
-use Rattle.slider_notes.proofs.Words.{bit_is, add_on}
+use Rattle.slider_notes.proofs.Words.{bit_is, add_on, all}
 
--- at a loop's head: the rest of the rule comes to what the whole comes to, and there is room for what it still writes
-pub record At {A : Type 0} (columns : ℕ) (entry now : List ℕ) (most need c : ℕ) (p : Lent.Pattern) (answer whole : Answer ℕ A) : Type 0 where
+-- at a loop's head: the rule with so many turns left comes to what the whole comes to, and there is room for what it still writes
+pub record At {A : Type 0} (columns : ℕ) (entry now : List ℕ) (most need c : ℕ) (p : Lent.Pattern) (rule : ℕ → Answer ℕ A) (left : ℕ) (whole : Answer ℕ A) : Type 0 where
   pub size : length now ≡ length entry
   pub room : p.count + need ≤ most
   pub deck : c < columns
-  pub goes : answer ≡ whole
+  pub goes : rule left ≡ whole
+
+pub start : {A : Type 0} (columns : ℕ) (entry : List ℕ) (most need c : ℕ) (p : Lent.Pattern) (rule : ℕ → Answer ℕ A) (n : ℕ) → p.count + need ≤ most → c < columns
+    → At columns entry entry most need c p rule (n - 0) (rule n)
+start columns entry most need c p rule n r h = record { size = refl; room = r; deck = h; goes = ap rule (all n) }
 
 -- the search of the code
 abbrev pub seek : PathObjectPatternGenerator → ℕ → ℕ → ObjectRule ℕ
@@ -46,21 +50,21 @@ mask_is now p = refl
 -- ---- a row
 
 module _ (g : PathObjectPatternGenerator) (now : List ℕ) (n time c : ℕ) (p : Lent.Pattern) (rest : Draws) where
-  row_is : (s : Pattern SliderNote) → 0 < n
-      → add_row g n time c s ≡ (add_slider_note g c time time s >>= (λ q. find_column g c (2 ^ c) >>= (λ d. add_row g (n - 1) (time + g.length) d q)))
+  row_is : (s : Pattern SliderNote) → (m : ℕ) → n ≡ suc m
+      → add_row g n time c s ≡ (add_slider_note g c time time s >>= (λ q. find_column g c (2 ^ c) >>= (λ d. add_row g m (time + g.length) d q)))
   unfolding add_row
-  row_is s h = let e : n ≡ suc (n - 1) = omega arith in ap (λ (k : ℕ). add_row g k time c s) e
+  row_is s m h = ap (λ (k : ℕ). add_row g k time c s) h
 
-  module _ (h : 0 < n) (deck : c < g.columns) (small : g.columns ≤ 9) (after : List ℕ) (q : Lent.Pattern) (w : Put now after p (slider_note c time time) q) (next : Draws) where
-    row_put : on (add_row g n time c (pattern of_word now p)) rest ≡ on (seek g c (1 * 2 ^ c % 65536) >>= (λ d. add_row g (n - 1) (time + g.length) d (pattern of_word after q))) rest
+  module _ (m : ℕ) (h : n ≡ suc m) (deck : c < g.columns) (small : g.columns ≤ 9) (after : List ℕ) (q : Lent.Pattern) (w : Put now after p (slider_note c time time) q) (next : Draws) where
+    row_put : on (add_row g n time c (pattern of_word now p)) rest ≡ on (seek g c (1 * 2 ^ c % 65536) >>= (λ d. add_row g m (time + g.length) d (pattern of_word after q))) rest
     unfolding find_column
     row_put =
-        ap (λ (m : ObjectRule (Pattern SliderNote)). on m rest) (row_is (pattern of_word now p) h)
+        ap (λ (o : ObjectRule (Pattern SliderNote)). on o rest) (row_is (pattern of_word now p) m h)
         ∙ found_bind _ _ _ _ _ (add_on g c time time (pattern of_word now p) rest deck)
         ∙ rw (← (bit_is c (omega arith)), w.is)
 
     pub row_more : (e : ℕ) → on (seek g c (1 * 2 ^ c % 65536)) rest ≡ found e next
-        → on (add_row g n time c (pattern of_word now p)) rest ≡ on (add_row g (n - 1) (time + g.length) e (pattern of_word after q)) next
+        → on (add_row g n time c (pattern of_word now p)) rest ≡ on (add_row g m (time + g.length) e (pattern of_word after q)) next
     row_more e f = row_put ∙ found_bind _ _ _ _ _ f
 
     pub row_stop : (x : ℕ) → on (seek g c (1 * 2 ^ c % 65536)) rest ≡ refused x next → on (add_row g n time c (pattern of_word now p)) rest ≡ refused x next
@@ -73,18 +77,18 @@ module _ (g : PathObjectPatternGenerator) (now : List ℕ) (n time c : ℕ) (p :
 -- ---- holds of the whole slider
 
 module _ (g : PathObjectPatternGenerator) (now : List ℕ) (barred n c : ℕ) (p : Lent.Pattern) (rest : Draws) where
-  holds_is : (s : Pattern SliderNote) → 0 < n
-      → add_holds g barred n c s ≡ (find_column g c (bit_or s.mask barred) >>= (λ d. add_slider_note g d g.start g.end s >>= (λ q. add_holds g barred (n - 1) d q)))
+  holds_is : (s : Pattern SliderNote) → (m : ℕ) → n ≡ suc m
+      → add_holds g barred n c s ≡ (find_column g c (bit_or s.mask barred) >>= (λ d. add_slider_note g d g.start g.end s >>= (λ q. add_holds g barred m d q)))
   unfolding add_holds
-  holds_is s h = let e : n ≡ suc (n - 1) = omega arith in ap (λ (k : ℕ). add_holds g barred k c s) e
+  holds_is s m h = ap (λ (k : ℕ). add_holds g barred k c s) h
 
-  module _ (h : 0 < n) (next : Draws) where
+  module _ (m : ℕ) (h : n ≡ suc m) (next : Draws) where
     pub holds_more : (e : ℕ) → on (seek g c (bit_or p.mask barred)) rest ≡ found e next → e < g.columns
         → (after : List ℕ) (q : Lent.Pattern) → Put now after p (slider_note e g.start g.end) q
-        → on (add_holds g barred n c (pattern of_word now p)) rest ≡ on (add_holds g barred (n - 1) e (pattern of_word after q)) next
+        → on (add_holds g barred n c (pattern of_word now p)) rest ≡ on (add_holds g barred m e (pattern of_word after q)) next
     unfolding find_column
     holds_more e f deck after q w =
-        ap (λ (m : ObjectRule (ℕ × Pattern SliderNote)). on m rest) (holds_is (pattern of_word now p) h)
+        ap (λ (o : ObjectRule (ℕ × Pattern SliderNote)). on o rest) (holds_is (pattern of_word now p) m h)
         ∙ found_bind _ _ _ _ _ (ap (λ (k : ℕ). on (seek g c (bit_or k barred)) rest) (mask_is now p) ∙ f)
         ∙ found_bind _ _ _ _ _ (add_on g e g.start g.end (pattern of_word now p) next deck)
         ∙ rw w.is
@@ -92,7 +96,7 @@ module _ (g : PathObjectPatternGenerator) (now : List ℕ) (barred n c : ℕ) (p
     pub holds_stop : (x : ℕ) → on (seek g c (bit_or p.mask barred)) rest ≡ refused x next → on (add_holds g barred n c (pattern of_word now p)) rest ≡ refused x next
     unfolding find_column
     holds_stop x f =
-        ap (λ (m : ObjectRule (ℕ × Pattern SliderNote)). on m rest) (holds_is (pattern of_word now p) h)
+        ap (λ (o : ObjectRule (ℕ × Pattern SliderNote)). on o rest) (holds_is (pattern of_word now p) m h)
         ∙ refused_bind _ _ _ _ _ (ap (λ (k : ℕ). on (seek g c (bit_or k barred)) rest) (mask_is now p) ∙ f)
 
   pub holds_end : n ≤ 0 → on (add_holds g barred n c (pattern of_word now p)) rest ≡ found (c, pattern of_word now p) rest
@@ -102,18 +106,18 @@ module _ (g : PathObjectPatternGenerator) (now : List ℕ) (barred n c : ℕ) (p
 -- ---- tiled holds
 
 module _ (g : PathObjectPatternGenerator) (now : List ℕ) (end n time c : ℕ) (p : Lent.Pattern) (rest : Draws) where
-  tiles_is : (s : Pattern SliderNote) → 0 < n
-      → add_tiles g end n time c s ≡ (find_column g c s.mask >>= (λ d. add_slider_note g d time end s >>= (λ q. add_tiles g end (n - 1) (time + g.length) d q)))
+  tiles_is : (s : Pattern SliderNote) → (m : ℕ) → n ≡ suc m
+      → add_tiles g end n time c s ≡ (find_column g c s.mask >>= (λ d. add_slider_note g d time end s >>= (λ q. add_tiles g end m (time + g.length) d q)))
   unfolding add_tiles
-  tiles_is s h = let e : n ≡ suc (n - 1) = omega arith in ap (λ (k : ℕ). add_tiles g end k time c s) e
+  tiles_is s m h = ap (λ (k : ℕ). add_tiles g end k time c s) h
 
-  module _ (h : 0 < n) (next : Draws) where
+  module _ (m : ℕ) (h : n ≡ suc m) (next : Draws) where
     pub tiles_more : (e : ℕ) → on (seek g c p.mask) rest ≡ found e next → e < g.columns
         → (after : List ℕ) (q : Lent.Pattern) → Put now after p (slider_note e time end) q
-        → on (add_tiles g end n time c (pattern of_word now p)) rest ≡ on (add_tiles g end (n - 1) (time + g.length) e (pattern of_word after q)) next
+        → on (add_tiles g end n time c (pattern of_word now p)) rest ≡ on (add_tiles g end m (time + g.length) e (pattern of_word after q)) next
     unfolding find_column
     tiles_more e f deck after q w =
-        ap (λ (m : ObjectRule (Pattern SliderNote)). on m rest) (tiles_is (pattern of_word now p) h)
+        ap (λ (o : ObjectRule (Pattern SliderNote)). on o rest) (tiles_is (pattern of_word now p) m h)
         ∙ found_bind _ _ _ _ _ (ap (λ (k : ℕ). on (seek g c k) rest) (mask_is now p) ∙ f)
         ∙ found_bind _ _ _ _ _ (add_on g e time end (pattern of_word now p) next deck)
         ∙ rw w.is
@@ -121,7 +125,7 @@ module _ (g : PathObjectPatternGenerator) (now : List ℕ) (end n time c : ℕ) 
     pub tiles_stop : (x : ℕ) → on (seek g c p.mask) rest ≡ refused x next → on (add_tiles g end n time c (pattern of_word now p)) rest ≡ refused x next
     unfolding find_column
     tiles_stop x f =
-        ap (λ (m : ObjectRule (Pattern SliderNote)). on m rest) (tiles_is (pattern of_word now p) h)
+        ap (λ (o : ObjectRule (Pattern SliderNote)). on o rest) (tiles_is (pattern of_word now p) m h)
         ∙ refused_bind _ _ _ _ _ (ap (λ (k : ℕ). on (seek g c k) rest) (mask_is now p) ∙ f)
 
   pub tiles_end : n ≤ 0 → on (add_tiles g end n time c (pattern of_word now p)) rest ≡ found (pattern of_word now p) rest
@@ -134,19 +138,19 @@ module _ (g : PathObjectPatternGenerator) (now : List ℕ) (hold time n c row : 
   abbrev pub off : ℕ
   off = bit_or row (1 * 2 ^ hold % 65536)
 
-  beside_is : (s : Pattern SliderNote) → 0 < n
+  beside_is : (s : Pattern SliderNote) → (m : ℕ) → n ≡ suc m
       → add_beside g hold time n c row s
-      ≡ (find_column g c (bit_or row (2 ^ hold)) >>= (λ d. add_slider_note g d time time s >>= (λ q. add_beside g hold time (n - 1) d (bit_or row (2 ^ d)) q)))
+      ≡ (find_column g c (bit_or row (2 ^ hold)) >>= (λ d. add_slider_note g d time time s >>= (λ q. add_beside g hold time m d (bit_or row (2 ^ d)) q)))
   unfolding add_beside
-  beside_is s h = let e : n ≡ suc (n - 1) = omega arith in ap (λ (k : ℕ). add_beside g hold time k c row s) e
+  beside_is s m h = ap (λ (k : ℕ). add_beside g hold time k c row s) h
 
-  module _ (h : 0 < n) (held : hold < 9) (next : Draws) where
+  module _ (m : ℕ) (h : n ≡ suc m) (held : hold < 9) (next : Draws) where
     pub beside_more : (e : ℕ) → on (seek g c off) rest ≡ found e next → e < g.columns → g.columns ≤ 9
         → (after : List ℕ) (q : Lent.Pattern) → Put now after p (slider_note e time time) q
-        → on (add_beside g hold time n c row (pattern of_word now p)) rest ≡ on (add_beside g hold time (n - 1) e (bit_or row (1 * 2 ^ e % 65536)) (pattern of_word after q)) next
+        → on (add_beside g hold time n c row (pattern of_word now p)) rest ≡ on (add_beside g hold time m e (bit_or row (1 * 2 ^ e % 65536)) (pattern of_word after q)) next
     unfolding find_column
     beside_more e f deck small after q w =
-        ap (λ (m : ObjectRule (ℕ × Pattern SliderNote)). on m rest) (beside_is (pattern of_word now p) h)
+        ap (λ (o : ObjectRule (ℕ × Pattern SliderNote)). on o rest) (beside_is (pattern of_word now p) m h)
         ∙ found_bind _ _ _ _ _ (ap (λ (k : ℕ). on (seek g c (bit_or row k)) rest) (bit_is hold (omega arith)) ∙ f)
         ∙ found_bind _ _ _ _ _ (add_on g e time time (pattern of_word now p) next deck)
         ∙ rw (← (bit_is e (omega arith)), w.is)
@@ -154,7 +158,7 @@ module _ (g : PathObjectPatternGenerator) (now : List ℕ) (hold time n c row : 
     pub beside_stop : (x : ℕ) → on (seek g c off) rest ≡ refused x next → on (add_beside g hold time n c row (pattern of_word now p)) rest ≡ refused x next
     unfolding find_column
     beside_stop x f =
-        ap (λ (m : ObjectRule (ℕ × Pattern SliderNote)). on m rest) (beside_is (pattern of_word now p) h)
+        ap (λ (o : ObjectRule (ℕ × Pattern SliderNote)). on o rest) (beside_is (pattern of_word now p) m h)
         ∙ refused_bind _ _ _ _ _ (ap (λ (k : ℕ). on (seek g c (bit_or row k)) rest) (bit_is hold (omega arith)) ∙ f)
 
   pub beside_end : n ≤ 0 → on (add_beside g hold time n c row (pattern of_word now p)) rest ≡ found (c, pattern of_word now p) rest
@@ -164,18 +168,18 @@ module _ (g : PathObjectPatternGenerator) (now : List ℕ) (hold time n c row : 
 -- ---- a stair
 
 module _ (g : PathObjectPatternGenerator) (now : List ℕ) (n time c : ℕ) (up : Bool) (p : Lent.Pattern) (rest : Draws) where
-  stair_is : (s : Pattern SliderNote) → 0 < n
+  stair_is : (s : Pattern SliderNote) → (m : ℕ) → n ≡ suc m
       → add_stair g n time c up s
       ≡ (add_slider_note g c time time s
-      >>= (λ q. add_stair g (n - 1) (time + g.length) (if rises g.columns c up then c + 1 else c - 1) (rises g.columns c up) q))
+      >>= (λ q. add_stair g m (time + g.length) (if rises g.columns c up then c + 1 else c - 1) (rises g.columns c up) q))
   unfolding add_stair
-  stair_is s h = let e : n ≡ suc (n - 1) = omega arith in ap (λ (k : ℕ). add_stair g k time c up s) e
+  stair_is s m h = ap (λ (k : ℕ). add_stair g k time c up s) h
 
-  pub stair_more : 0 < n → c < g.columns → (after : List ℕ) (q : Lent.Pattern) → Put now after p (slider_note c time time) q
+  pub stair_more : (m : ℕ) → n ≡ suc m → c < g.columns → (after : List ℕ) (q : Lent.Pattern) → Put now after p (slider_note c time time) q
       → (on_up : Bool) → on_up ≡ rises g.columns c up → (d : ℕ) → d ≡ (if on_up then c + 1 else c - 1)
-      → on (add_stair g n time c up (pattern of_word now p)) rest ≡ on (add_stair g (n - 1) (time + g.length) d on_up (pattern of_word after q)) rest
-  stair_more h deck after q w on_up u d e =
-      ap (λ (m : ObjectRule (Pattern SliderNote)). on m rest) (stair_is (pattern of_word now p) h)
+      → on (add_stair g n time c up (pattern of_word now p)) rest ≡ on (add_stair g m (time + g.length) d on_up (pattern of_word after q)) rest
+  stair_more m h deck after q w on_up u d e =
+      ap (λ (o : ObjectRule (Pattern SliderNote)). on o rest) (stair_is (pattern of_word now p) m h)
       ∙ found_bind _ _ _ _ _ (add_on g c time time (pattern of_word now p) rest deck)
       ∙ rw (e, w.is, u)
 
@@ -196,26 +200,26 @@ module _ (g : PathObjectPatternGenerator) (now : List ℕ) (interval n time c : 
   abbrev other : ℕ
   other = other_column g.columns interval c
 
-  rows_is : (s : Pattern SliderNote) → 0 < n
+  rows_is : (s : Pattern SliderNote) → (m : ℕ) → n ≡ suc m
       → add_rows g interval n time c s
       ≡ (add_slider_note g c time time s
       >>= (λ q. (if ltb 2 g.columns then add_slider_note g other time time q else give q)
-      >>= (λ r. any_column g >>= (λ d. add_rows g interval (n - 1) (time + g.length) d r))))
+      >>= (λ r. any_column g >>= (λ d. add_rows g interval m (time + g.length) d r))))
   unfolding add_rows
-  rows_is s h = let e : n ≡ suc (n - 1) = omega arith in ap (λ (k : ℕ). add_rows g interval k time c s) e
+  rows_is s m h = ap (λ (k : ℕ). add_rows g interval k time c s) h
 
-  module _ (h : 0 < n) (deck : c < g.columns) (deck2 : other < g.columns) (mid after : List ℕ) (q r : Lent.Pattern) (w : Put now mid p (slider_note c time time) q)
+  module _ (m : ℕ) (h : n ≡ suc m) (deck : c < g.columns) (deck2 : other < g.columns) (mid after : List ℕ) (q r : Lent.Pattern) (w : Put now mid p (slider_note c time time) q)
       (v : PutOther mid after q g.columns (slider_note other time time) r) (next : Draws) where
-    rows_put : on (add_rows g interval n time c (pattern of_word now p)) rest ≡ on (drawn g >>= (λ d. add_rows g interval (n - 1) (time + g.length) d (pattern of_word after r))) rest
+    rows_put : on (add_rows g interval n time c (pattern of_word now p)) rest ≡ on (drawn g >>= (λ d. add_rows g interval m (time + g.length) d (pattern of_word after r))) rest
     unfolding any_column
     rows_put =
-        ap (λ (m : ObjectRule (Pattern SliderNote)). on m rest) (rows_is (pattern of_word now p) h)
+        ap (λ (o : ObjectRule (Pattern SliderNote)). on o rest) (rows_is (pattern of_word now p) m h)
         ∙ found_bind _ _ _ _ _ (add_on g c time time (pattern of_word now p) rest deck)
         ∙ found_bind _ _ _ _ _ (second_on g (ltb 2 g.columns) other time (put (slider_note c time time) c (pattern of_word now p)) rest deck2)
         ∙ rw (v.is, w.is)
 
     pub rows_more : (e : ℕ) → on (drawn g) rest ≡ found e next
-        → on (add_rows g interval n time c (pattern of_word now p)) rest ≡ on (add_rows g interval (n - 1) (time + g.length) e (pattern of_word after r)) next
+        → on (add_rows g interval n time c (pattern of_word now p)) rest ≡ on (add_rows g interval m (time + g.length) e (pattern of_word after r)) next
     rows_more e f = rows_put ∙ found_bind _ _ _ _ _ f
 
     pub rows_stop : (x : ℕ) → on (drawn g) rest ≡ refused x next → on (add_rows g interval n time c (pattern of_word now p)) rest ≡ refused x next
@@ -239,23 +243,23 @@ here_le g bare k time = go (bare && eqb time g.start)
     go false = omega arith
 
 module _ (g : PathObjectPatternGenerator) (now : List ℕ) (hold : ℕ) (bare : Bool) (k n time c : ℕ) (p : Lent.Pattern) (rest : Draws) where
-  besides_is : (s : Pattern SliderNote) → 0 < n
+  besides_is : (s : Pattern SliderNote) → (m : ℕ) → n ≡ suc m
       → add_besides g hold bare k n time c s
-      ≡ (add_beside g hold time (here g bare k time) c 0 s >>= (λ row. add_besides g hold bare k (n - 1) (time + g.length) row.0 row.1))
+      ≡ (add_beside g hold time (here g bare k time) c 0 s >>= (λ row. add_besides g hold bare k m (time + g.length) row.0 row.1))
   unfolding add_besides
-  besides_is s h = let e : n ≡ suc (n - 1) = omega arith in ap (λ (j : ℕ). add_besides g hold bare k j time c s) e
+  besides_is s m h = ap (λ (j : ℕ). add_besides g hold bare k j time c s) h
 
-  module _ (h : 0 < n) (m : ℕ) (i : m ≡ here g bare k time) (next : Draws) where
-    pub besides_more : (e : ℕ) (after : List ℕ) (q : Lent.Pattern) → on (add_beside g hold time m c 0 (pattern of_word now p)) rest ≡ found (e, pattern of_word after q) next
-        → on (add_besides g hold bare k n time c (pattern of_word now p)) rest ≡ on (add_besides g hold bare k (n - 1) (time + g.length) e (pattern of_word after q)) next
+  module _ (m : ℕ) (h : n ≡ suc m) (some : ℕ) (i : some ≡ here g bare k time) (next : Draws) where
+    pub besides_more : (e : ℕ) (after : List ℕ) (q : Lent.Pattern) → on (add_beside g hold time some c 0 (pattern of_word now p)) rest ≡ found (e, pattern of_word after q) next
+        → on (add_besides g hold bare k n time c (pattern of_word now p)) rest ≡ on (add_besides g hold bare k m (time + g.length) e (pattern of_word after q)) next
     besides_more e after q f =
-        ap (λ (m : ObjectRule (Pattern SliderNote)). on m rest) (besides_is (pattern of_word now p) h)
+        ap (λ (o : ObjectRule (Pattern SliderNote)). on o rest) (besides_is (pattern of_word now p) m h)
         ∙ found_bind _ _ _ _ _ (ap (λ (j : ℕ). on (add_beside g hold time j c 0 (pattern of_word now p)) rest) (sym i) ∙ f)
 
-    pub besides_stop : (x : ℕ) → on (add_beside g hold time m c 0 (pattern of_word now p)) rest ≡ refused x next
+    pub besides_stop : (x : ℕ) → on (add_beside g hold time some c 0 (pattern of_word now p)) rest ≡ refused x next
         → on (add_besides g hold bare k n time c (pattern of_word now p)) rest ≡ refused x next
     besides_stop x f =
-        ap (λ (m : ObjectRule (Pattern SliderNote)). on m rest) (besides_is (pattern of_word now p) h)
+        ap (λ (o : ObjectRule (Pattern SliderNote)). on o rest) (besides_is (pattern of_word now p) m h)
         ∙ refused_bind _ _ _ _ _ (ap (λ (j : ℕ). on (add_beside g hold time j c 0 (pattern of_word now p)) rest) (sym i) ∙ f)
 
   pub besides_end : n ≤ 0 → on (add_besides g hold bare k n time c (pattern of_word now p)) rest ≡ found (pattern of_word now p) rest

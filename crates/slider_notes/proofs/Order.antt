@@ -12,7 +12,7 @@ use lib.Dec.{eqb}
 use borrow.Author.Tests.{eq-eqb, ne_eqb}
 use lib.Pow.{pow_pos}
 use lib.ListN.{length, set, take, drop, get_or, length-set, length-map}
-use lib.Seq.{drop-cons, length-take-le}
+use lib.Seq.{drop-cons, length-take-le, take-length}
 use Rattle.mania.specs.declared.SliderNote.{SliderNote}
 use Rattle.mania.specs.Pattern.{Pattern, put, empty}
 use Rattle.mania.specs.PathObject.{others, ending}
@@ -214,10 +214,12 @@ prefixed end (b ∷ bs) pre p =
     (ap (λ (l : List SliderNote). ending end bs (record { mask = bit_or p.mask (2 ^ b.column); last = b.column; notes = l })) (append_assoc pre p.notes (b ∷ [])) ∙ prefixed end bs pre (put b b.column p))
     (prefixed end bs pre p)
 
-module _ (end : ℕ) (src : List ℕ) (p : Lent.Pattern) (k : ℕ) (mid exit : List ℕ) (q : Lent.Pattern) (fit : p.count ≤ length src)
-    (o : Others src p.count end mid k) (e : Endings src p.count end mid exit (record { mask = 0; last = 0; count = k }) q) where
+module _ (end : ℕ) (src : List ℕ) (p : Lent.Pattern) (k : ℕ) (mid exit : List ℕ) (q : Lent.Pattern) (fit : p.count ≤ length src) where
+  abbrev part : List ℕ
+  part = take p.count src
+
   abbrev notes : List SliderNote
-  notes = map of_word (take p.count src)
+  notes = map of_word part
 
   abbrev last : Pattern SliderNote
   last = ending end notes empty
@@ -225,27 +227,31 @@ module _ (end : ℕ) (src : List ℕ) (p : Lent.Pattern) (k : ℕ) (mid exit : L
   abbrev both : Pattern SliderNote
   both = record { mask = last.mask; last = last.last; notes = others end notes ++ last.notes }
 
-  both_is : pattern of_word exit q ≡ both
-  unfolding pattern empty
-  both_is =
-      e.is ∙ ap (λ (l : List SliderNote). ending end notes (record { mask = 0; last = 0; notes = l })) (o.is ∙ sym (append-nil (others end notes)))
-      ∙ prefixed end notes (others end notes) empty
-
   size : length notes ≡ p.count
-  size = length-map (take p.count src) of_word ∙ length-take-le p.count src fit
+  size = length-map part of_word ∙ length-take-le p.count src fit
 
-  many : q.count ≡ p.count
-  many = omega (arith, e.many, o.rest)
+  module _ (o : Others part (length part) end mid k) (e : Endings part (length part) end mid exit (record { mask = 0; last = 0; count = k }) q) where
+    both_is : pattern of_word exit q ≡ both
+    unfolding pattern empty
+    both_is =
+        let words = take-length part in
+        e.is ∙ ap (λ (l : List ℕ). ending end (map of_word l) (record { mask = 0; last = 0; notes = map of_word (take k mid) })) words
+        ∙ ap (λ (l : List SliderNote). ending end notes (record { mask = 0; last = 0; notes = l }))
+        (o.is ∙ ap (λ (l : List ℕ). others end (map of_word l)) words ∙ sym (append-nil (others end notes)))
+        ∙ prefixed end notes (others end notes) empty
 
-  pub split_more : (p.count ≡ 1 → ⊥) → Ordered end src exit p q
-  unfolding walk_order pattern
-  split_more n = record { is = both_is ∙ rw (size, ne_eqb _ _ n); same = many }
+    many : q.count ≡ p.count
+    many = omega (arith, e.many, o.rest, length-take-le p.count src fit)
 
-  pub split_one : p.count ≡ 1 → Ordered end src exit p (record { mask = p.mask; last = p.last; count = q.count })
-  unfolding walk_order pattern
-  split_one n = record {
-    is =
-        ap (λ (l : List SliderNote). record { mask = p.mask; last = p.last; notes = l }) (ap (λ (r : Pattern SliderNote). r.notes) both_is)
-        ∙ rw (size, eq-eqb _ _ n);
-    same = many;
-  }
+    pub split_more : (p.count ≡ 1 → ⊥) → Ordered end src exit p q
+    unfolding walk_order pattern
+    split_more n = record { is = both_is ∙ rw (size, ne_eqb _ _ n); same = many }
+
+    pub split_one : p.count ≡ 1 → Ordered end src exit p (record { mask = p.mask; last = p.last; count = q.count })
+    unfolding walk_order pattern
+    split_one n = record {
+      is =
+          ap (λ (l : List SliderNote). record { mask = p.mask; last = p.last; notes = l }) (ap (λ (r : Pattern SliderNote). r.notes) both_is)
+          ∙ rw (size, eq-eqb _ _ n);
+      same = many;
+    }

@@ -1,4 +1,5 @@
-// The notes of a slider, one word a note in a lent buffer, and the loops that write them. Each loop is a rule of mania/specs/PathObject.antt.
+// The notes of a slider, one word a note in a lent buffer, and the loops that write them. Each loop is a rule of mania/specs/PathObject.antt: one loop for
+// them all would be no plainer, as each asks another mask and other times, in its own order.
 #![tactic(auto)]
 
 ghost use Rattle.std.specs.Prelude.{◌≡◌, false, ◌&&◌, eqb, ◌+◌, ◌-◌, ◌*◌, ◌^◌, ◌≤◌, ◌<◌, map, length, take, if◌then◌else◌};
@@ -6,25 +7,27 @@ ghost use Rattle.random.specs.Play.{on};
 ghost use Rattle.mania.specs.PathObject as Path;
 ghost use Rattle.mania.specs.declared.Next.TheVariants.{Draw};
 ghost use Rattle.mania.specs.PatternGenerator.{random_start, get_random_column, find_available_column};
-ghost use Rattle.pattern.specs.Answers.{number, pattern};
+ghost use Rattle.random.specs.Answers.{number};
+ghost use Rattle.pattern.specs.Answers.{column_of, pattern};
 ghost use Rattle.slider_notes.specs.Words.{of_word, note_of_word, slider_note, Put, PutOther, rises};
 ghost use Rattle.slider_notes.specs.Answers.{Places, Reaches};
+ghost use Rattle.slider_notes.specs.Turns.{OnDeck, Turns};
 ghost use Rattle.slider_notes.specs.Order.{endings, Others, Endings, Ordered};
 
 use mania::{Next, Note, PathObjectPatternGenerator};
-use pattern::{Number, Pattern, Placed};
-use random::Draws;
+use pattern::Pattern;
+use random::{Draws, Outcome};
 
-// A pattern with the column of its last note, or the number of a refusal, and the draws after it.
+// A pattern with the column of its last note.
 #[derive(Clone, Copy)]
-pub enum Reached {
-    Notes(u8, Pattern, Draws),
-    Refused(u8, Draws),
+pub struct Reached {
+    pub column: u8,
+    pub pattern: Pattern,
 }
 
 // ---- notes and columns
 
-// A note as a word: from the lowest bit on, 4 bits of column, 26 of start, 26 of end.
+// A note as a word: from the lowest bit on, 4 bits of column, 26 of start, 26 of end. Fixed memory: a lent buffer has one word a note.
 pub fn word(column: u8, start: u32, end: u32) -> u64
     requires { (column < 9) × (start < 2 ^ 26) × (end < 2 ^ 26) }
     ensures { result ≡ end * 2 ^ 30 + start * 2 ^ 4 + column }
@@ -32,14 +35,14 @@ pub fn word(column: u8, start: u32, end: u32) -> u64
     (end as u64) * 1073741824 + (start as u64) * 16 + (column as u64)
 }
 
-// Writes one note more.
-pub fn put_slider_note(words: &mut [u64], p: Pattern, column: u8, start: u32, end: u32) -> Pattern
-    requires { (column < 9) × (start < 2 ^ 26) × (end < 2 ^ 26) × (p.count < length words.old) }
-    ensures { Put words.old words.new p (slider_note column start end) result }
+// Writes one word more, which is a note of the column.
+fn put_word(words: &mut [u64], p: Pattern, column: u8, w: u64) -> Pattern
+    requires { (column ≡ column_of w) × (p.count < length words.old) }
+    ensures { Put words.old words.new p (of_word w) result }
 {
     let mask = p.mask;
     let count = p.count;
-    words[count] = word(column, start, end);
+    words[count] = w;
     Pattern {
         mask: mask | (1 << column),
         last: column,
@@ -47,8 +50,17 @@ pub fn put_slider_note(words: &mut [u64], p: Pattern, column: u8, start: u32, en
     }
 }
 
+// Writes one note more.
+pub fn put_slider_note(words: &mut [u64], p: Pattern, column: u8, start: u32, end: u32) -> Pattern
+    requires { (column < 9) × (start < 2 ^ 26) × (end < 2 ^ 26) × (p.count < length words.old) }
+    ensures { Put words.old words.new p (slider_note column start end) result }
+{
+    let w = word(column, start, end);
+    put_word(words, p, column, w)
+}
+
 // A column on the deck that is not taken, by draws.
-pub fn find_column(d: Draws, columns: u8, initial: u8, taken: u16) -> Number
+pub fn find_column(d: Draws, columns: u8, initial: u8, taken: u16) -> Outcome<u8>
     requires { (initial < columns) × (columns ≤ 9) }
     ensures { number result ≡ on (find_available_column Draw columns initial (random_start columns) columns taken) d }
 {
@@ -57,7 +69,7 @@ pub fn find_column(d: Draws, columns: u8, initial: u8, taken: u16) -> Number
 }
 
 // A drawn column.
-pub fn any_column(d: Draws, columns: u8) -> Number
+pub fn any_column(d: Draws, columns: u8) -> Outcome<u8>
     requires { (1 ≤ columns) × (columns ≤ 9) }
     ensures { number result ≡ on (get_random_column (random_start columns) columns) d }
 {
@@ -76,30 +88,22 @@ pub fn add_row(
     from: u32,
     first: u8,
     before: Pattern,
-) -> Placed
-    requires { (1 ≤ g.columns) × (g.columns ≤ 9) × (first < g.columns) × (from + n * g.length < 2 ^ 26) × (before.count + n ≤ length words.old) }
+) -> Outcome<Pattern>
+    requires { Turns g n from first × (before.count + n ≤ length words.old) }
     ensures { Places words.new (on (Path.add_row g n from first (pattern of_word words.old before)) d) (before.count + n) result }
 {
     let mut rest = d;
     let mut p = before;
-    let mut left = n;
     let mut time = from;
     let mut c = first;
-    while 0 < left {
+    for _ in 0..n {
         p = put_slider_note(words, p, c, time, time);
-        match find_column(rest, g.columns, c, 1 << c) {
-            Number::Given(e, next) => {
-                rest = next;
-                c = e;
-                time = time + g.length;
-                left = left - 1;
-            }
-            Number::Refused(x, next) => {
-                return Placed::Refused(x, next);
-            }
-        }
+        let (e, next) = find_column(rest, g.columns, c, 1 << c)?;
+        rest = next;
+        c = e;
+        time += g.length;
     }
-    Placed::Notes(p, rest)
+    Ok((p, rest))
 }
 
 // `add_holds`
@@ -111,28 +115,26 @@ pub fn add_holds(
     n: u32,
     first: u8,
     before: Pattern,
-) -> Reached
-    requires { (1 ≤ g.columns) × (g.columns ≤ 9) × (first < g.columns) × (g.start < 2 ^ 26) × (g.end < 2 ^ 26) × (before.count + n ≤ length words.old) }
+) -> Outcome<Reached>
+    requires { OnDeck g first × (g.start < 2 ^ 26) × (g.end < 2 ^ 26) × (before.count + n ≤ length words.old) }
     ensures { Reaches words.new (on (Path.add_holds g barred n first (pattern of_word words.old before)) d) (before.count + n) g.columns result }
 {
     let mut rest = d;
     let mut p = before;
-    let mut left = n;
     let mut c = first;
-    while 0 < left {
-        match find_column(rest, g.columns, c, p.mask | barred) {
-            Number::Given(e, next) => {
-                p = put_slider_note(words, p, e, g.start, g.end);
-                rest = next;
-                c = e;
-                left = left - 1;
-            }
-            Number::Refused(x, next) => {
-                return Reached::Refused(x, next);
-            }
-        }
+    for _ in 0..n {
+        let (e, next) = find_column(rest, g.columns, c, p.mask | barred)?;
+        p = put_slider_note(words, p, e, g.start, g.end);
+        rest = next;
+        c = e;
     }
-    Reached::Notes(c, p, rest)
+    Ok((
+        Reached {
+            column: c,
+            pattern: p,
+        },
+        rest,
+    ))
 }
 
 // Whether a stair goes up from a column: it turns at the ends of the deck.
@@ -165,23 +167,21 @@ pub fn add_stair(
     first: u8,
     rising: bool,
     before: Pattern,
-) -> Placed
-    requires { (2 ≤ g.columns) × (g.columns ≤ 9) × (first < g.columns) × (from + n * g.length < 2 ^ 26) × (before.count + n ≤ length words.old) }
+) -> Outcome<Pattern>
+    requires { (2 ≤ g.columns) × Turns g n from first × (before.count + n ≤ length words.old) }
     ensures { Places words.new (on (Path.add_stair g n from first rising (pattern of_word words.old before)) d) (before.count + n) result }
 {
     let mut p = before;
-    let mut left = n;
     let mut time = from;
     let mut c = first;
     let mut up = rising;
-    while 0 < left {
+    for _ in 0..n {
         p = put_slider_note(words, p, c, time, time);
         up = rises(g.columns, c, up);
         c = step(c, up);
-        time = time + g.length;
-        left = left - 1;
+        time += g.length;
     }
-    Placed::Notes(p, d)
+    Ok((p, d))
 }
 
 // `legacy`: 1 for 4 to 8 columns.
@@ -227,31 +227,23 @@ pub fn add_rows(
     from: u32,
     first: u8,
     before: Pattern,
-) -> Placed
-    requires { (1 ≤ g.columns) × (g.columns ≤ 9) × (first < g.columns) × (from + n * g.length < 2 ^ 26) × (before.count + 2 * n ≤ length words.old) × (interval + Path.legacy g.columns < g.columns) }
+) -> Outcome<Pattern>
+    requires { Turns g n from first × (before.count + 2 * n ≤ length words.old) × (interval + Path.legacy g.columns < g.columns) }
     ensures { Places words.new (on (Path.add_rows g interval n from first (pattern of_word words.old before)) d) (before.count + 2 * n) result }
 {
     let mut rest = d;
     let mut p = before;
-    let mut left = n;
     let mut time = from;
     let mut c = first;
-    while 0 < left {
+    for _ in 0..n {
         p = put_slider_note(words, p, c, time, time);
         p = put_other(words, p, g.columns, interval, c, time);
-        match any_column(rest, g.columns) {
-            Number::Given(e, next) => {
-                rest = next;
-                c = e;
-                time = time + g.length;
-                left = left - 1;
-            }
-            Number::Refused(x, next) => {
-                return Placed::Refused(x, next);
-            }
-        }
+        let (e, next) = any_column(rest, g.columns)?;
+        rest = next;
+        c = e;
+        time += g.length;
     }
-    Placed::Notes(p, rest)
+    Ok((p, rest))
 }
 
 // `add_tiles`
@@ -264,30 +256,22 @@ pub fn add_tiles(
     from: u32,
     first: u8,
     before: Pattern,
-) -> Placed
-    requires { (1 ≤ g.columns) × (g.columns ≤ 9) × (first < g.columns) × (from + n * g.length < 2 ^ 26) × (before.count + n ≤ length words.old) × (end < 2 ^ 26) }
+) -> Outcome<Pattern>
+    requires { Turns g n from first × (before.count + n ≤ length words.old) × (end < 2 ^ 26) }
     ensures { Places words.new (on (Path.add_tiles g end n from first (pattern of_word words.old before)) d) (before.count + n) result }
 {
     let mut rest = d;
     let mut p = before;
-    let mut left = n;
     let mut time = from;
     let mut c = first;
-    while 0 < left {
-        match find_column(rest, g.columns, c, p.mask) {
-            Number::Given(e, next) => {
-                p = put_slider_note(words, p, e, time, end);
-                rest = next;
-                c = e;
-                time = time + g.length;
-                left = left - 1;
-            }
-            Number::Refused(x, next) => {
-                return Placed::Refused(x, next);
-            }
-        }
+    for _ in 0..n {
+        let (e, next) = find_column(rest, g.columns, c, p.mask)?;
+        p = put_slider_note(words, p, e, time, end);
+        rest = next;
+        c = e;
+        time += g.length;
     }
-    Placed::Notes(p, rest)
+    Ok((p, rest))
 }
 
 // `add_beside`
@@ -301,30 +285,28 @@ pub fn add_beside(
     first: u8,
     mask: u16,
     before: Pattern,
-) -> Reached
-    requires { (1 ≤ g.columns) × (g.columns ≤ 9) × (first < g.columns) × (hold < 9) × (time < 2 ^ 26) × (before.count + n ≤ length words.old) }
+) -> Outcome<Reached>
+    requires { OnDeck g first × (hold < 9) × (time < 2 ^ 26) × (before.count + n ≤ length words.old) }
     ensures { Reaches words.new (on (Path.add_beside g hold time n first mask (pattern of_word words.old before)) d) (before.count + n) g.columns result }
 {
     let mut rest = d;
     let mut p = before;
-    let mut left = n;
     let mut c = first;
     let mut row = mask;
-    while 0 < left {
-        match find_column(rest, g.columns, c, row | (1 << hold)) {
-            Number::Given(e, next) => {
-                p = put_slider_note(words, p, e, time, time);
-                rest = next;
-                c = e;
-                row = row | (1 << e);
-                left = left - 1;
-            }
-            Number::Refused(x, next) => {
-                return Reached::Refused(x, next);
-            }
-        }
+    for _ in 0..n {
+        let (e, next) = find_column(rest, g.columns, c, row | (1 << hold))?;
+        p = put_slider_note(words, p, e, time, time);
+        rest = next;
+        c = e;
+        row |= 1 << e;
     }
-    Reached::Notes(c, p, rest)
+    Ok((
+        Reached {
+            column: c,
+            pattern: p,
+        },
+        rest,
+    ))
 }
 
 // How many circles a row has: none at the slider's start where its sound is plain.
@@ -347,31 +329,23 @@ pub fn add_besides(
     from: u32,
     first: u8,
     before: Pattern,
-) -> Placed
-    requires { (1 ≤ g.columns) × (g.columns ≤ 9) × (first < g.columns) × (from + n * g.length < 2 ^ 26) × (before.count + 6 * n ≤ length words.old) × (hold < 9) × (k ≤ 6) }
+) -> Outcome<Pattern>
+    requires { Turns g n from first × (before.count + 6 * n ≤ length words.old) × (hold < 9) × (k ≤ 6) }
     ensures { Places words.new (on (Path.add_besides g hold bare k n from first (pattern of_word words.old before)) d) (before.count + 6 * n) result }
 {
     let mut rest = d;
     let mut p = before;
-    let mut left = n;
     let mut time = from;
     let mut c = first;
-    while 0 < left {
+    for _ in 0..n {
         let here = beside(bare, time, g.start, k);
-        match add_beside(rest, g, words, hold, time, here, c, 0, p) {
-            Reached::Notes(e, q, next) => {
-                rest = next;
-                p = q;
-                c = e;
-                time = time + g.length;
-                left = left - 1;
-            }
-            Reached::Refused(x, next) => {
-                return Placed::Refused(x, next);
-            }
-        }
+        let (row, next) = add_beside(rest, g, words, hold, time, here, c, 0, p)?;
+        rest = next;
+        p = row.pattern;
+        c = row.column;
+        time += g.length;
     }
-    Placed::Notes(p, rest)
+    Ok((p, rest))
 }
 
 // ---- walk order: first the notes that do not end at the slider's end, then those that do, which are the next object's previous pattern
@@ -416,53 +390,29 @@ pub fn note_of(w: u64) -> Note
 }
 
 // Copies the notes that do not end at a time, and gives their number.
-pub fn put_others(src: &[u64], n: usize, end: u32, dst: &mut [u64]) -> usize
-    requires { (n ≤ length src.now) × (n ≤ length dst.old) }
-    ensures { Others src.now n end dst.new result }
+pub fn put_others(src: &[u64], end: u32, dst: &mut [u64]) -> usize
+    requires { length src.now ≤ length dst.old }
+    ensures { Others src.now (length src.now) end dst.new result }
 {
-    let mut i = 0;
     let mut k = 0;
-    while i < n {
-        let w = src[i];
-        i += 1;
-        if end_of(w) == end {
-            continue;
+    for w in src {
+        if end_of(*w) != end {
+            dst[k] = *w;
+            k += 1;
         }
-        dst[k] = w;
-        k += 1;
     }
     k
 }
 
-// Writes one note more, as its word.
-fn put_word(dst: &mut [u64], p: Pattern, w: u64) -> Pattern
-    requires { p.count < length dst.old }
-    ensures { Put dst.old dst.new p (of_word w) result }
-{
-    let mask = p.mask;
-    let count = p.count;
-    let column = pattern::column_of(w);
-    dst[count] = w;
-    Pattern {
-        mask: mask | (1 << column),
-        last: column,
-        count: count + 1,
-    }
-}
-
 // Adds the notes that end at a time to a pattern.
-pub fn put_ending(src: &[u64], n: usize, end: u32, dst: &mut [u64], before: Pattern) -> Pattern
-    requires { (n ≤ length src.now) × (before.count + endings end (map of_word (take n src.now)) ≤ length dst.old) }
-    ensures { Endings src.now n end dst.old dst.new before result }
+pub fn put_ending(src: &[u64], end: u32, dst: &mut [u64], before: Pattern) -> Pattern
+    requires { before.count + endings end (map of_word src.now) ≤ length dst.old }
+    ensures { Endings src.now (length src.now) end dst.old dst.new before result }
 {
     let mut p = before;
-    let mut i = 0;
-    while i < n {
-        let w = src[i];
-        i += 1;
-        if end_of(w) == end {
-            p = put_word(dst, p, w);
-            continue;
+    for w in src {
+        if end_of(*w) == end {
+            p = put_word(dst, p, pattern::column_of(*w), *w);
         }
     }
     p
@@ -474,18 +424,17 @@ pub fn split(src: &[u64], p: Pattern, end: u32, dst: &mut [u64]) -> Pattern
     ensures { Ordered end src.now dst.new p result }
 {
     let n = p.count;
-    let k = put_others(src, n, end, dst);
+    let notes = &src[..n];
+    let k = put_others(notes, end, dst);
     let first = Pattern {
-        mask: 0,
-        last: 0,
         count: k,
+        ..pattern::EMPTY
     };
-    let q = put_ending(src, n, end, dst, first);
+    let q = put_ending(notes, end, dst, first);
     if n == 1 {
         return Pattern {
-            mask: p.mask,
-            last: p.last,
             count: q.count,
+            ..p
         };
     }
     q

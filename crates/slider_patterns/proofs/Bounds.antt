@@ -1,34 +1,28 @@
 -- Bounds on what the rules give, and on times and rooms. Assumes nothing.
 use Rattle.std.specs.Prelude.{if◌then◌else◌}
-use mathlib.Core.Path.{◌≡◌, refl, sym, ◌∙◌}
-use Prim.Native.Nat.{ℕ, ◌+◌, ◌*◌, ◌^◌, ◌≤◌, ◌<◌, zero-le}
-use native.Mathlib.Nat.{le_refl, le_trans, mul-le-mul_right, mul_comm}
+use mathlib.Core.Path.{◌≡◌, refl}
+use Prim.Native.Nat.{ℕ, ◌+◌, ◌*◌, ◌^◌, ◌≤◌, ◌<◌}
+use native.Mathlib.Nat.{le_refl, mul-le-mul_right, mul_comm}
 use native.Mathlib.Omega.{arith}
 use mathlib.Core.Bool.{Bool, true, false, ◌&&◌}
-use mathlib.Core.List.{List}
 use lib.Dec.{leb, ltb}
 use borrow.Author.Tests.{leb-true}
 use lib.Count.{ones}
 use lib.Ieee.{Float, lt}
 use Rattle.rules.specs.Rule.{give, ◌>>=◌}
 use Rattle.random.specs.Generator.{unit}
-use Rattle.random.specs.Play.{Answer, found, refused, on}
+use Rattle.random.specs.Play.{found, on}
 use Rattle.random.specs.declared.Draws.{Draws}
 use Rattle.random.specs.Laws.Gives.{Gives, if_gives}
 use Rattle.random.specs.Laws.On.{gives}
-use Rattle.mania.specs.declared.SliderNote.{SliderNote}
 use Rattle.mania.specs.declared.PathObjectPatternGenerator.{PathObjectPatternGenerator}
 use Rattle.mania.specs.Steps.{double}
 use Rattle.mania.specs.declared.Next.TheVariants.{Draw}
-use Rattle.mania.specs.Pattern.{Pattern}
 use Rattle.mania.specs.PatternType.{contains, force_not_stack}
 use Rattle.mania.specs.PatternGenerator.{random_start, get_column, get_random_note_count}
 use Rattle.mania.specs.PathObject.{legacy, find_column, head_column, one_or_two, beside_count}
 use Rattle.pattern.specs.Laws.Searches.{find_gives, start_lt, get_column_lt}
 use Rattle.pattern.specs.Laws.Bounds.{note_count_le}
-use Rattle.slider_notes.specs.Answers.{Places}
-use Rattle.pattern.specs.declared.Placed.{Placed}
-use Rattle.pattern.specs.declared.Placed.TheVariants as P
 use Rattle.slider_patterns.specs.Parts.{Fits}
 
 -- ---- columns
@@ -90,10 +84,3 @@ module _ (g : PathObjectPatternGenerator) (words : ℕ) (f : Fits g words) where
 
   pub fits_kept : (after : ℕ) → after ≡ words → Fits g after
   fits_kept after e = rw e f
-
--- an answer of another rule, with more room
-pub places : (exit : List ℕ) (a b : Answer ℕ (Pattern SliderNote)) (m k : ℕ) (r : Placed) → Places exit a m r → a ≡ b → m ≤ k → Places exit b k r
-places exit a b m k r l e h = record { says = l.says ∙ e; few = le_trans l.few h }
-
-pub stops : (exit : List ℕ) (b : Answer ℕ (Pattern SliderNote)) (k x : ℕ) (e : Draws) → b ≡ refused x e → Places exit b k (P.Refused x e)
-stops exit b k x e h = record { says = sym h; few = zero-le }

@@ -1,15 +1,14 @@
 -- The generators' rules, one call at a time. Assumes nothing.
 use Rattle.std.specs.Prelude.{if◌then◌else◌}
 use mathlib.Core.Path.{◌≡◌, ◌∙◌}
-use Prim.Native.Nat.{ℕ, ◌+◌, ◌-◌, ◌*◌, ◌<◌, min}
+use Prim.Native.Nat.{ℕ, ◌+◌, ◌-◌, ◌<◌, min}
 use mathlib.Core.Bool.{Bool, true, false, not, ◌&&◌}
 use lib.Count.{ones}
 use lib.Dec.{ltb}
-use lib.Ieee.{Float, lt}
+use lib.Ieee.{Float}
 use Rattle.rules.specs.Rule.{◌>>=◌}
 use Rattle.rules.specs.Refusal.{ObjectRule}
-use Rattle.random.specs.Generator.{between, unit}
-use Rattle.random.specs.Play.{found, refused, play, on, value}
+use Rattle.random.specs.Play.{found, refused, play, on}
 use Rattle.random.specs.declared.Draws.{Draws}
 use Rattle.random.specs.Laws.On.{found_bind, refused_bind}
 use Rattle.mania.specs.declared.SliderNote.{SliderNote}
@@ -19,23 +18,13 @@ use Rattle.mania.specs.Steps.{double}
 use Rattle.model.specs.Sound.{whistle, finish, clap, has_flag}
 use Rattle.mania.specs.Pattern.{Pattern, empty, put}
 use Rattle.mania.specs.PatternType.{contains}
-use Rattle.mania.specs.PatternGenerator.{random_start, get_column, get_random_column, get_random_note_count, note_count, find_available_column}
-use Rattle.mania.specs.PathObject.{Chances, any_column, find_column, head_column, add_holds, generate_random_hold_notes, add_row, generate_random_notes, add_stair, generate_stair, legacy, add_rows}
-use Rattle.mania.specs.PathObject.{generate_random_multiple_notes, capped, two_notes, generate_n_random_notes, add_tiles, generate_tiled_hold_notes, add_besides, beside_count, generate_hold_and_normal_notes}
+use Rattle.mania.specs.PatternGenerator.{random_start, get_column, get_random_column, get_random_note_count, find_available_column}
+use Rattle.mania.specs.PathObject.{Chances, any_column, find_column, head_column, add_holds, generate_random_hold_notes}
+use Rattle.mania.specs.PathObject.{capped, two_notes, generate_n_random_notes, add_besides, beside_count, generate_hold_and_normal_notes}
 use Rattle.slider_notes.specs.Words.{slider_note}
 use Rattle.slider_notes.proofs.Words.{add_on}
 
--- ---- counts and columns
-
-module _ (p2 p3 p4 p5 p6 : Float) (d : Draws) where
-  pub count_found : (v : ℕ) (e : Draws) (x : Float) (n : ℕ) → on value d ≡ found v e → x ≡ unit v → n ≡ note_count p2 p3 p4 p5 p6 x
-      → on (get_random_note_count p2 p3 p4 p5 p6) d ≡ found n e
-  unfolding get_random_note_count play
-  count_found v e x n h i j = found_bind value _ _ _ _ h ∙ rw (← i, j)
-
-  pub count_spent : on value d ≡ refused 12 d → on (get_random_note_count p2 p3 p4 p5 p6) d ≡ refused 12 d
-  unfolding get_random_note_count
-  count_spent h = refused_bind value _ _ _ _ h
+-- ---- columns
 
 module _ (g : PathObjectPatternGenerator) (flags : ℕ) (d : Draws) (own : ℕ) (o : own ≡ get_column g.x g.columns) (b : Bool)
     (m : b ≡ (contains flags 2 && ltb (ones g.mask) g.columns)) where
@@ -53,10 +42,6 @@ module _ (g : PathObjectPatternGenerator) (d : Draws) where
 
   -- ---- holds
 
-  pub holds_stop : (n x : ℕ) (e : Draws) → on drawn d ≡ refused x e → on (generate_random_hold_notes g n) d ≡ refused x e
-  unfolding generate_random_hold_notes any_column
-  holds_stop n x e h = refused_bind drawn _ _ _ _ h
-
   -- those off the previous pattern, and those that come anywhere
   module _ (n c : ℕ) (e : Draws) (h : on drawn d ≡ found c e) (s : Pattern SliderNote) (b : s ≡ empty) (off over : ℕ)
       (i : off ≡ min (g.columns - random_start g.columns - ones g.mask) n) (j : over ≡ n + ones g.mask - (g.columns - random_start g.columns)) where
@@ -73,36 +58,6 @@ module _ (g : PathObjectPatternGenerator) (d : Draws) where
       unfolding generate_random_hold_notes any_column play
       holds_found y u l z = found_bind drawn _ _ _ _ h ∙ found_bind _ _ _ _ _ (rw (i, b) at k) ∙ found_bind _ _ _ _ _ (rw j at z)
 
-  -- ---- rows and stairs
-
-  pub row_found : (flags n c : ℕ) (e : Draws) (s : Pattern SliderNote) → s ≡ empty → on (head_column g flags) d ≡ found c e
-      → on (generate_random_notes g flags n) d ≡ on (add_row g n g.start c s) e
-  unfolding generate_random_notes
-  row_found flags n c e s b h = found_bind (head_column g flags) _ _ _ _ h ∙ rw b
-
-  pub row_stop : (flags n x : ℕ) (e : Draws) → on (head_column g flags) d ≡ refused x e → on (generate_random_notes g flags n) d ≡ refused x e
-  unfolding generate_random_notes
-  row_stop flags n x e h = refused_bind (head_column g flags) _ _ _ _ h
-
-  pub stair_found : (v : ℕ) (e : Draws) (y : Float) (c : ℕ) (s : Pattern SliderNote) → s ≡ empty → on value d ≡ found v e → y ≡ unit v → c ≡ get_column g.x g.columns
-      → on (generate_stair g) d ≡ on (add_stair g (g.spans + 1) g.start c (lt (double 1 2) y) s) e
-  unfolding generate_stair
-  stair_found v e y c s b h i j = found_bind value _ _ _ _ h ∙ rw (b, j, i)
-
-  pub stair_spent : on value d ≡ refused 12 d → on (generate_stair g) d ≡ refused 12 d
-  unfolding generate_stair
-  stair_spent h = refused_bind value _ _ _ _ h
-
-  pub rows_found : (v : ℕ) (e : Draws) (l k c : ℕ) (s : Pattern SliderNote) → s ≡ empty → on value d ≡ found v e → l ≡ legacy g.columns
-      → k ≡ between 1 (g.columns - l) v → c ≡ get_column g.x g.columns
-      → on (generate_random_multiple_notes g) d ≡ on (add_rows g k (g.spans + 1) g.start c s) e
-  unfolding generate_random_multiple_notes
-  rows_found v e l k c s b h i j m = found_bind value _ _ _ _ h ∙ rw (b, m, j, i)
-
-  pub rows_spent : on value d ≡ refused 12 d → on (generate_random_multiple_notes g) d ≡ refused 12 d
-  unfolding generate_random_multiple_notes
-  rows_spent h = refused_bind value _ _ _ _ h
-
   -- ---- random counts of holds
 
   module _ (chance k : Chances) (i : k ≡ capped g.columns chance) (two : Bool) (t : two ≡ two_notes g) (p : Float) (j : p ≡ (if two then double 1 1 else k.p2)) where
@@ -116,23 +71,6 @@ module _ (g : PathObjectPatternGenerator) (d : Draws) where
     pub n_stop : (x : ℕ) (e : Draws) → on counting d ≡ refused x e → on (generate_n_random_notes g chance) d ≡ refused x e
     unfolding generate_n_random_notes
     n_stop x e h = refused_bind _ _ _ _ _ (rw (j, t, i) at h)
-
-  -- ---- tiled holds
-
-  pub tiles_found : (c : ℕ) (e : Draws) (n : ℕ) → n ≡ min g.spans g.columns → (s : Pattern SliderNote) → s ≡ empty → on (head_column g g.flags) d ≡ found c e
-      → on (generate_tiled_hold_notes g) d ≡ on (add_tiles g (g.start + g.length * g.spans) n g.start c s) e
-  unfolding generate_tiled_hold_notes
-  tiles_found c e n i s b h = found_bind (head_column g g.flags) _ _ _ _ h ∙ rw (b, i)
-
-  pub tiles_stop : (x : ℕ) (e : Draws) → on (head_column g g.flags) d ≡ refused x e → on (generate_tiled_hold_notes g) d ≡ refused x e
-  unfolding generate_tiled_hold_notes
-  tiles_stop x e h = refused_bind (head_column g g.flags) _ _ _ _ h
-
-  -- ---- a hold with circles
-
-  pub normal_stop : (x : ℕ) (e : Draws) → on (head_column g g.flags) d ≡ refused x e → on (generate_hold_and_normal_notes g) d ≡ refused x e
-  unfolding generate_hold_and_normal_notes
-  normal_stop x e h = refused_bind (head_column g g.flags) _ _ _ _ h
 
 module _ (g : PathObjectPatternGenerator) (d : Draws) (hold : ℕ) (e : Draws) (h : on (head_column g g.flags) d ≡ found hold e) (deck : hold < g.columns)
     (s p : Pattern SliderNote) (b : s ≡ empty) (w : p ≡ put (slider_note hold g.start g.end) hold s) where

@@ -2,16 +2,15 @@
 #![tactic(auto)]
 
 ghost use Rattle.std.specs.Prelude.{◌≡◌, ◌+◌, ◌-◌, ◌/◌, ◌<◌, ◌≤◌, if◌then◌else◌};
-ghost use Rattle.std.proofs.Math.Bool as Bool;
 ghost use Rattle.mania.specs.PatternType.{low_probability};
 ghost use Rattle.mania.specs.PathObject as Path;
 ghost use Rattle.slider_times.specs.Chances.{chances, caps_of};
 
 use floats::Way;
 use mania::{Facts, PathObjectPatternGenerator, PrevValues};
-use model::{Distance, NodeSound, Object, sound};
+use model::{Object, sound};
 
-// The chances of two, three and four notes.
+// The chances of two, three and four notes. `mania::CircleChances` has that of five too, which no slider has: one type for both would be no plainer.
 #[derive(Clone, Copy)]
 pub struct Chance {
     pub p2: f64,
@@ -21,7 +20,16 @@ pub struct Chance {
 
 // ---- chances
 
-// The caps by column count; a cap of 1 caps nothing.
+impl Chance {
+    fn new(p2: f64, p3: f64, p4: f64) -> Chance
+        ensures { chances result ≡ record { p2 = p2; p3 = p3; p4 = p4 } }
+    {
+        Chance { p2, p3, p4 }
+    }
+}
+
+// The caps by column count; a cap of 1 caps nothing. Constant arrays, one a chance (docs/DECISIONS.md): a table of `Chance`s would be no plainer, as its
+// rows can call no function.
 const CAPS_2: [f64; 10] = [1.0, 1.0, 0.0, 0.1, 0.3, 0.34, 1.0, 1.0, 1.0, 1.0];
 
 const CAPS_3: [f64; 10] = [1.0, 1.0, 0.0, 0.0, 0.04, 0.1, 1.0, 1.0, 1.0, 1.0];
@@ -33,11 +41,7 @@ pub fn caps(columns: usize) -> Chance
     requires { columns ≤ 9 }
     ensures { chances result ≡ caps_of columns }
 {
-    Chance {
-        p2: CAPS_2[columns],
-        p3: CAPS_3[columns],
-        p4: CAPS_4[columns],
-    }
+    Chance::new(CAPS_2[columns], CAPS_3[columns], CAPS_4[columns])
 }
 
 // The chances, each at most its cap.
@@ -53,75 +57,36 @@ pub fn capped(columns: u8, c: Chance) -> Chance
     }
 }
 
-// The chances of one span by the conversion difficulty, with `LOW_PROBABILITY`.
-fn rare_chances(difficulty: f64) -> Chance
-    ensures { chances result ≡ Path.chances_by difficulty Bool.true }
-{
-    if 6.5 < difficulty {
-        Chance {
-            p2: 0.78,
-            p3: 0.3,
-            p4: 0.0,
-        }
-    } else if 4.0 < difficulty {
-        Chance {
-            p2: 0.43,
-            p3: 0.08,
-            p4: 0.0,
-        }
-    } else if 2.5 < difficulty {
-        Chance {
-            p2: 0.3,
-            p3: 0.0,
-            p4: 0.0,
-        }
-    } else {
-        Chance {
-            p2: 0.17,
-            p3: 0.0,
-            p4: 0.0,
-        }
-    }
-}
-
-// And without.
-fn usual_chances(difficulty: f64) -> Chance
-    ensures { chances result ≡ Path.chances_by difficulty Bool.false }
-{
-    if 6.5 < difficulty {
-        Chance {
-            p2: 0.85,
-            p3: 0.36,
-            p4: 0.03,
-        }
-    } else if 4.0 < difficulty {
-        Chance {
-            p2: 0.56,
-            p3: 0.18,
-            p4: 0.0,
-        }
-    } else if 2.5 < difficulty {
-        Chance {
-            p2: 0.37,
-            p3: 0.08,
-            p4: 0.0,
-        }
-    } else {
-        Chance {
-            p2: 0.27,
-            p3: 0.0,
-            p4: 0.0,
-        }
-    }
-}
-
+// The chances of one span by the conversion difficulty.
 pub fn chances_by(difficulty: f64, rare: bool) -> Chance
     ensures { chances result ≡ Path.chances_by difficulty rare }
 {
-    if rare {
-        return rare_chances(difficulty);
+    if 6.5 < difficulty {
+        return if rare {
+            Chance::new(0.78, 0.3, 0.0)
+        } else {
+            Chance::new(0.85, 0.36, 0.03)
+        };
     }
-    usual_chances(difficulty)
+    if 4.0 < difficulty {
+        return if rare {
+            Chance::new(0.43, 0.08, 0.0)
+        } else {
+            Chance::new(0.56, 0.18, 0.0)
+        };
+    }
+    if 2.5 < difficulty {
+        return if rare {
+            Chance::new(0.3, 0.0, 0.0)
+        } else {
+            Chance::new(0.37, 0.08, 0.0)
+        };
+    }
+    if rare {
+        Chance::new(0.17, 0.0, 0.0)
+    } else {
+        Chance::new(0.27, 0.0, 0.0)
+    }
 }
 
 // `can_generate_two_notes`
@@ -142,7 +107,7 @@ pub fn adjusted_beat(velocity: f64, beat: f64) -> f64
 {
     let as_beat = -100.0 / velocity;
     if as_beat < 0.0 {
-        let x = floats::clamp_f32(10.0, 10000.0, floats::narrow(-as_beat));
+        let x = floats::narrow(-as_beat).clamp(10.0, 10000.0);
         beat * (std::num::f32_to_f64_with_nan(x) / 100.0)
     } else {
         beat * 1.0
@@ -150,23 +115,17 @@ pub fn adjusted_beat(velocity: f64, beat: f64) -> f64
 }
 
 // A missing distance is 0.
-pub fn distance_of(distance: Distance) -> f64
+pub fn distance_of(distance: Option<f64>) -> f64
     ensures { result ≡ Path.distance_of distance }
 {
-    match distance {
-        Distance::Missing => 0.0,
-        Distance::Given(d) => d,
-    }
+    distance.unwrap_or(0.0)
 }
 
 // A missing first node sound is the object's own.
-pub fn head_sound(node: NodeSound, sound: u8) -> u8
+pub fn head_sound(node: Option<u8>, sound: u8) -> u8
     ensures { result ≡ Path.head_sound node sound }
 {
-    match node {
-        NodeSound::Missing => sound,
-        NodeSound::Given(s) => s,
-    }
+    node.unwrap_or(sound)
 }
 
 // The start, rounded to the nearest whole number, ties to even.
@@ -177,7 +136,7 @@ pub fn start_time(o: Object) -> u32
 }
 
 // The end: floor of start + distance·beat·spans·0.01 / multiplier.
-pub fn end_time(f: Facts, o: Object, spans: u32, distance: Distance) -> u32
+pub fn end_time(f: Facts, o: Object, spans: u32, distance: Option<f64>) -> u32
     ensures { result ≡ Path.end_time f o spans distance }
 {
     let beat = adjusted_beat(f.velocity, f.beat);
@@ -199,10 +158,7 @@ pub fn span_length(start: u32, end: u32, spans: u32) -> u32
     requires { 1 ≤ spans }
     ensures { result ≡ (end - start) / spans }
 {
-    if end < start {
-        return 0;
-    }
-    (end - start) / spans
+    end.saturating_sub(start) / spans
 }
 
 // `new`
@@ -212,8 +168,8 @@ pub fn new(
     columns: u8,
     o: Object,
     repeats: u16,
-    distance: Distance,
-    node: NodeSound,
+    distance: Option<f64>,
+    node: Option<u8>,
 ) -> PathObjectPatternGenerator
     ensures { result ≡ Path.new f v columns o repeats distance node }
 {

@@ -1,4 +1,5 @@
 -- A slider's ends: a host's number above what its field can hold is refused as the field's largest value is. Assumes nothing.
+use Rattle.std.specs.Prelude.{Option}
 use mathlib.Core.Path.{◌≡◌, refl, sym, ap, ◌∙◌, subst}
 use Prim.Native.Nat.{ℕ}
 use native.Mathlib.Omega.{arith}
@@ -7,9 +8,8 @@ use lib.Dec.{eqb}
 use lib.Ieee.{Float}
 use borrow.Author.Tests.{eqb-true, eqb-false}
 use Rattle.model.specs.Limits.{most_repeats, most_spans}
-use Rattle.model.specs.declared.NodeSound.{NodeSound}
 use Rattle.mania.specs.Single.{kind_fits}
-use Rattle.announced.specs.declared.DistanceRange.{DistanceRange}
+use Rattle.announced.specs.declared.Bounds.{Bounds}
 use Rattle.announced.specs.declared.Slider.{Slider}
 use Rattle.announced.specs.Announced.{facts_of, rest_refusal, ends_refusal}
 use Rattle.announced.specs.Laws.{rest_is, small_fields}
@@ -24,7 +24,7 @@ module _ (multiplier beat velocity x y start : Float) (sound repeats given node 
   abbrev cut : Slider
   cut = slider_of multiplier beat velocity x y start (saturate8 sound) (saturate16 repeats) given (saturate8 node)
 
-  abbrev with_fields : ℕ → ℕ → NodeSound → Slider
+  abbrev with_fields : ℕ → ℕ → Option ℕ → Slider
   with_fields s r n =
       record { multiplier = multiplier; beat = beat; velocity = velocity; position = record { x = x; y = y }; start = start; sound = s; repeats = r; node = n }
 
@@ -40,7 +40,7 @@ module _ (multiplier beat velocity x y start : Float) (sound repeats given node 
       let n = node_itself given node f.2 in
       ap (λ (k : ℕ). with_fields k (saturate16 repeats) cut.node) s ∙ ap (λ (k : ℕ). with_fields sound k cut.node) r ∙ ap (with_fields sound repeats) n
 
-  module _ (r : DistanceRange) (n earliest latest : ℕ) where
+  module _ (r : Bounds Float) (n earliest latest : ℕ) where
     by_rest : (b : Bool) → eqb (rest_refusal cut) 0 ≡ b → EndsTold cut r n earliest latest → EndsTold whole r n earliest latest
     unfolding ends_refusal
     by_rest true e h = subst (λ (s : Slider). EndsTold s r n earliest latest) (same_slider (eqb-true (rest_refusal cut) 0 e)) h

@@ -1,9 +1,8 @@
 -- The answers of a job, of the chart reader and of the note reader as the numbers that a host in C gets. Assumes nothing.
-use Rattle.std.specs.Prelude.{cond, ℕ}
+use Rattle.std.specs.Prelude as Std
+use Rattle.std.specs.Prelude.{cond, ℕ, None, Some}
 use Rattle.std.proofs.Math.Option.{Option, none, some}
 use Rattle.chart.specs.Layout.{version_number}
-use Rattle.chart.specs.declared.Origin.{Origin}
-use Rattle.chart.specs.declared.Origin.TheVariants.{Untold, Object}
 use Rattle.chart.specs.declared.Note.{Note}
 use Rattle.chart.specs.Chart.{Reading}
 use Rattle.chart.specs.Chart as Chart
@@ -73,9 +72,9 @@ duration_in none = 0
 duration_in (some n) = n.duration
 
 -- 1 where the object is told
-abbrev pub told : Origin → ℕ
-told Untold = 0
-told (Object i) = 1
+abbrev pub told : Std.Option ℕ → ℕ
+told None = 0
+told (Some i) = 1
 
 abbrev pub has_object_in : Option Note → ℕ
 has_object_in none = 0

@@ -5,21 +5,22 @@ ghost use Rattle.hit_object_lines.specs.Reading.{reading};
 ghost use Rattle.hit_object_lines.specs.Told.{told};
 ghost use Rattle.sumopine.specs.HitObjects.{outcome_number, outcome_length};
 
-use hit_object_lines::{Written, write_lines};
+use hit_object_lines::write_lines;
 use hit_object_reader::read_lines;
+use rules::Refusal;
 
 // An answer as two numbers: 0 and how many bytes were written, or the refusal's number and 0.
-fn measured(answer: Written, length: &mut u64) -> u32
+fn measured(answer: Result<usize, Refusal>, length: &mut u64) -> u32
     ensures { (result ≡ outcome_number (told answer)) × (length.new ≡ outcome_length (told answer)) }
 {
     match answer {
-        Written::Length(k) => {
+        Ok(k) => {
             *length = k as u64;
             0
         }
-        Written::Refused(n) => {
+        Err(refusal) => {
             *length = 0;
-            n as u32
+            u32::from(refusal)
         }
     }
 }

@@ -14,10 +14,6 @@ ghost use Rattle.job.specs.Job as Job;
 ghost use Rattle.chart.specs.Chart.{index, reading, note_in};
 ghost use Rattle.sumopine.specs.Numbers.{number_of, length_of, object_of, longest_of, read_number, read_version, read_columns, read_notes, read_draws, is_found, column_in, hold_in, start_in, duration_in, told, has_object_in, object_in};
 
-use chart::{Answer, Found, Origin};
-use convert::JobEnd;
-use rules::numbers;
-
 // A job, of a record's bytes: 0, the chart's length and the most draws of one search, or the refusal's number and the object's index; and the draws made.
 #[unsafe(no_mangle)]
 pub extern "C" fn sumopine_convert(
@@ -37,19 +33,19 @@ pub extern "C" fn sumopine_convert(
     ensures chart_after { chart.new ≡ (job bytes.now chart.old allowance).chart }
 {
     match convert::convert(bytes, chart, allowance) {
-        JobEnd::Chart(n, g) => {
-            *length = n as u64;
+        Ok(made) => {
+            *length = made.length as u64;
             *object = 0;
             *draws = chart_reader::draws_in(chart);
-            *longest_search = g;
+            *longest_search = made.longest;
             0
         }
-        JobEnd::Refused(k, i, d) => {
+        Err(refused) => {
             *length = 0;
-            *object = i;
-            *draws = d;
+            *object = refused.object;
+            *draws = refused.draws;
             *longest_search = 0;
-            k as u32
+            u32::from(refused.refusal)
         }
     }
 }
@@ -70,24 +66,19 @@ pub extern "C" fn sumopine_read_chart(
     ensures draws_after { draws.new ≡ read_draws (reading chart.now) }
 {
     match chart_reader::read(chart) {
-        Answer::Chart {
-            version: v,
-            columns: c,
-            notes: n,
-            draws: d,
-        } => {
-            *version = chart::layout::number(v) as u32;
-            *columns = c;
-            *notes = n;
-            *draws = d;
+        Ok(header) => {
+            *version = u32::from(u8::from(header.version));
+            *columns = header.columns;
+            *notes = header.notes;
+            *draws = header.draws;
             0
         }
-        Answer::Refused => {
+        Err(refusal) => {
             *version = 0;
             *columns = 0;
             *notes = 0;
             *draws = 0;
-            numbers::BROKEN_CHART as u32
+            u32::from(refusal)
         }
     }
 }
@@ -99,22 +90,22 @@ fn bit(flag: bool) -> u32
 }
 
 // Whether a note tells its object.
-fn is_told(origin: Origin) -> u32
+fn is_told(origin: Option<u16>) -> u32
     ensures { result ≡ told origin }
 {
     match origin {
-        Origin::Untold => 0,
-        Origin::Object(_) => 1,
+        None => 0,
+        Some(_) => 1,
     }
 }
 
 // The object that a note tells, else 0.
-fn object_in(origin: Origin) -> u32
+fn object_in(origin: Option<u16>) -> u32
     ensures { result ≡ index origin }
 {
     match origin {
-        Origin::Untold => 0,
-        Origin::Object(i) => i as u32,
+        None => 0,
+        Some(i) => i as u32,
     }
 }
 
@@ -139,7 +130,7 @@ pub extern "C" fn sumopine_note(
     ensures object_after { object.new ≡ object_in (note_in chart.now index) }
 {
     match chart_reader::note(chart, index) {
-        Found::At(n) => {
+        Some(n) => {
             *column = n.column as u32;
             *hold = bit(n.hold);
             *start = n.start;
@@ -149,7 +140,7 @@ pub extern "C" fn sumopine_note(
             *object = object_in(origin);
             1
         }
-        Found::Nothing => {
+        None => {
             *column = 0;
             *hold = 0;
             *start = 0;

@@ -5,25 +5,26 @@ ghost use Rattle.chart_lookup.specs.Nearest.{sought};
 ghost use Rattle.chart_lookup.specs.declared.Wanted.TheVariants.{Starting, Covering};
 ghost use Rattle.sumopine.specs.Lookups.{lookup_number, lookup_count, is_place};
 
-use chart_lookup::nearest::{Sought, nearest_note};
-use chart_lookup::{Listed, Wanted, list_notes};
+use chart_lookup::nearest::nearest_note;
+use chart_lookup::{Wanted, list_notes};
+use rules::Refusal;
 
 // A list lookup's answer as two numbers: 0 and how many places were written, 0 of them where nothing is found; or the refusal's number and 0.
-fn counted(answer: Listed, count: &mut u64) -> u32
+fn counted(answer: Result<Option<u32>, Refusal>, count: &mut u64) -> u32
     ensures { (result ≡ lookup_number (told answer)) × (count.new ≡ lookup_count (told answer)) }
 {
     match answer {
-        Listed::Places(k) => {
+        Ok(Some(k)) => {
             *count = k as u64;
             0
         }
-        Listed::Nothing => {
+        Ok(None) => {
             *count = 0;
             0
         }
-        Listed::Refused(n) => {
+        Err(refusal) => {
             *count = 0;
-            n as u32
+            u32::from(refusal)
         }
     }
 }
@@ -79,20 +80,20 @@ pub extern "C" fn sumopine_nearest_note(
     ensures place_after { place.new ≡ lookup_count (sought chart.now column time) }
 {
     match nearest_note(chart, column, time) {
-        Sought::Place(k) => {
+        Ok(Some(k)) => {
             *found = 1;
             *place = k;
             0
         }
-        Sought::Nothing => {
+        Ok(None) => {
             *found = 0;
             *place = 0;
             0
         }
-        Sought::Refused(n) => {
+        Err(refusal) => {
             *found = 0;
             *place = 0;
-            n as u32
+            u32::from(refusal)
         }
     }
 }

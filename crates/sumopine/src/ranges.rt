@@ -3,7 +3,7 @@ ghost use Rattle.std.specs.Prelude.{◌≡◌};
 ghost use Rattle.object_numbers.specs.Single.{saturate8, saturate16};
 ghost use Rattle.sumopine.specs.Announced.{setting_range, distance_range, slider_of, CountsTold, EndsTold};
 
-use announced::{Columns, DistanceRange, Ends, SettingRange, Slider};
+use announced::{Bounds, Slider};
 use model::Position;
 use object_numbers::{node_of, saturate_u8, saturate_u16};
 
@@ -20,22 +20,22 @@ pub extern "C" fn sumopine_column_counts(
 ) -> u32
     ensures { CountsTold (setting_range od_low od_high) (setting_range cs_low cs_high) sliders_and_spinners objects result counts.new }
 {
-    let od = SettingRange {
+    let od = Bounds {
         low: od_low,
         high: od_high,
     };
-    let cs = SettingRange {
+    let cs = Bounds {
         low: cs_low,
         high: cs_high,
     };
     match announced::possible_columns(od, cs, sliders_and_spinners, objects) {
-        Columns::Among(mask) => {
+        Ok(mask) => {
             *counts = mask as u32;
             0
         }
-        Columns::Refused(n) => {
+        Err(refusal) => {
             *counts = 0;
-            n as u32
+            u32::from(refusal)
         }
     }
 }
@@ -93,20 +93,20 @@ pub extern "C" fn sumopine_slider_ends(
     let s = slider_of(
         multiplier, beat, velocity, x, y, start, sound, repeats, has_node, node,
     );
-    let distances = DistanceRange {
+    let distances = Bounds {
         low: distance_low,
         high: distance_high,
     };
     match announced::possible_ends(s, distances) {
-        Ends::Between(first, last) => {
+        Ok((first, last)) => {
             *earliest = first as u64;
             *latest = last as u64;
             0
         }
-        Ends::Refused(n) => {
+        Err(refusal) => {
             *earliest = 0;
             *latest = 0;
-            n as u32
+            u32::from(refusal)
         }
     }
 }

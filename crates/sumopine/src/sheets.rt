@@ -3,7 +3,7 @@ ghost use Rattle.std.specs.Prelude.{◌≡◌};
 ghost use Rattle.sheet.specs.Sheet.{sheeted};
 ghost use Rattle.sumopine.specs.Sheets.{sheet_number, sheet_length};
 
-use sheet::{Put, put_sheet};
+use sheet::put_sheet;
 
 // A chart's sheet: 0 and its length, or the refusal's number and 0.
 #[unsafe(no_mangle)]
@@ -13,13 +13,13 @@ pub extern "C" fn sumopine_sheet(chart: &[u8], buffer: &mut [u8], length: &mut u
     ensures buffer_after { buffer.new ≡ (sheeted chart.now buffer.old).1 }
 {
     match put_sheet(chart, buffer) {
-        Put::Length(n) => {
+        Ok(n) => {
             *length = n as u64;
             0
         }
-        Put::Refused(k) => {
+        Err(refusal) => {
             *length = 0;
-            k as u32
+            u32::from(refusal)
         }
     }
 }

@@ -1,9 +1,11 @@
 -- Laws of the text that proofs of this crate and of others cite.
 -- Assumes nothing.
-use Rattle.std.specs.Prelude.{◌≡◌, refl, Bool, true, false, List, [], ◌∷◌, ◌++◌, ℕ, zero, suc, ◌+◌, ◌-◌, ◌/◌, ◌%◌, ◌^◌, ◌≤◌, ◌<◌, ltb, length, get_or, take, drop, set, replicate}
+use Rattle.std.specs.Prelude.{◌≡◌, refl, Bool, true, false, List, [], ◌∷◌, ◌++◌, ℕ, zero, suc, ◌+◌, ◌-◌, ◌*◌, ◌/◌, ◌%◌, ◌^◌, ◌≤◌, ◌<◌, max, ltb, length, get_or, take, drop, set, replicate}
 use Rattle.std.proofs.Common.{sym, ap, ◌∙◌, pow-suc, div-lt_iff_lt-mul, add-one, arith, length-append, length-drop, drop-cons, take_at, take_all, length-take-le, lt-ltb, le-ltb, ltb-false}
-use Rattle.std.proofs.lemmas.List.{length-replicate, replicate-append-replicate, get_or_at}
+use Rattle.std.proofs.lemmas.List.{drop-drop, length-replicate, replicate-append-replicate, get_or_at}
+use Rattle.std.proofs.Math.Nat.{one-le-pow}
 use Rattle.std.proofs.Math.Seq.{take-suc, drop-length}
+use borrow.Rule.Slice.PartMut.{put_mid}
 use Rattle.chart.specs.Bytes.{splice}
 use Rattle.chart.specs.Laws.Bytes.{splice_none, splice_one, splice_before, splice_next, length_splice}
 use Rattle.text.specs.Text.{digit, digits, places, decimal, hex, space, right, left}
@@ -35,6 +37,11 @@ run_more s₀ s at c i h e =
     rw e (splice_one (splice s₀ at (replicate i c)) (at + i) c in_s
     ∙ splice_next s₀ at (replicate i c) (at + i) (c ∷ []) (omega arith) (omega arith)
     ∙ ap (splice s₀ at) (replicate-append-replicate i 1 c))
+
+-- a part of s, as the code writes it: in place of k bytes from index a on as many others
+pub part_splice : (a k : ℕ) (s v : List ℕ) → k ≡ length v → put_mid a k s v ≡ splice s a v
+unfolding splice
+part_splice a k s v e = rw (e, drop-drop (length v) a s)
 
 -- ---- digits
 
@@ -103,6 +110,20 @@ pub places_more : (k n : ℕ) → 10 ≤ n → 0 < k → places k (ltb n 10) n �
 unfolding places
 places_more (suc k) n h p = let same : k ≡ suc k - 1 = omega arith in rw (le-ltb n 10 h) (ap (λ (j : ℕ). places j (ltb (n / 10) 10) (n / 10) + 1) same)
 places_more zero n h p = elim p [ ]
+
+-- a number from 10^j on, or 0 for j = 0, and below 10^(j + 1) has j + 1 digits
+places_are : (k n j : ℕ) → n ≤ k → 10 ^ j ≤ max n 1 → n < 10 ^ suc j → places k (ltb n 10) n ≡ suc j
+places_are k n zero f l h = places_one k n (omega arith)
+places_are k n (suc j) f l h =
+    let low : 10 ^ j * 10 ≤ max n 1 = rw (pow-suc 10 j) at l in
+    let high : n < 10 ^ suc j * 10 = rw (pow-suc 10 (suc j)) at h in
+    let some : 1 ≤ 10 ^ j = one-le-pow j 10 (omega arith) in
+    let first : places (k - 1) (ltb (n / 10) 10) (n / 10) ≡ suc j = places_are (k - 1) (n / 10) j (omega arith) (omega arith) (omega arith) in
+    omega (arith, places_more k n (omega arith) (omega arith), first)
+
+pub length_decimal : (n j : ℕ) → 10 ^ j ≤ max n 1 → n < 10 ^ suc j → length (decimal n) ≡ suc j
+unfolding decimal
+length_decimal n j l h = length_digits 10 (places n (ltb n 10) n) n ∙ places_are n n j (omega arith) l h
 
 -- a number below 10^(j + 1) has j + 1 digits at most
 places_most : (k : ℕ) (t : Bool) (n j : ℕ) → ltb n 10 ≡ t → n < 10 ^ suc j → places k t n ≤ suc j

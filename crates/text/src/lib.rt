@@ -10,20 +10,18 @@ fn digit_code(d: u64) -> u8
     requires { d < 16 }
     ensures { result ≡ digit d }
 {
-    if d < 10 { 48 + d as u8 } else { 55 + d as u8 }
+    if d < 10 {
+        b'0' + d as u8
+    } else {
+        b'A' + (d - 10) as u8
+    }
 }
 
 // How many decimal digits n has.
 pub fn places(n: u32) -> usize
     ensures { (result ≡ length (decimal n)) × (result ≤ 10) }
 {
-    let mut k = 1;
-    let mut rest = n;
-    while rest >= 10 {
-        rest /= 10;
-        k += 1;
-    }
-    k
+    n.max(1).ilog10() as usize + 1
 }
 
 // Stores the last k digits of n in a base from `at`. All other bytes keep their values.
@@ -31,10 +29,8 @@ fn put_digits(s: &mut [u8], at: usize, n: u64, base: u64, k: usize)
     requires { (0 < base) × (base ≤ 16) × (at + k ≤ length s.old) }
     ensures { s.new ≡ splice s.old at (digits base k n) }
 {
-    let mut i = k;
     let mut rest = n;
-    while i > 0 {
-        i -= 1;
+    for i in (0..k).rev() {
         s[at + i] = digit_code(rest % base);
         rest /= base;
     }
@@ -51,7 +47,7 @@ pub fn put_number(s: &mut [u8], at: usize, n: u32) -> usize
     at + k
 }
 
-// The same where there is room for every number.
+// The same where there is room for every number. A function of its own: without it each caller would show in its own proof that ten places do.
 pub fn put_decimal(s: &mut [u8], at: usize, n: u32) -> usize
     requires { at + 10 ≤ length s.old }
     ensures value { (result ≡ at + length (decimal n)) × (result ≤ at + 10) }
@@ -66,12 +62,8 @@ pub fn put_run(s: &mut [u8], at: usize, character: u8, count: usize) -> usize
     ensures value { result ≡ at + count }
     ensures s_after { s.new ≡ splice s.old at (replicate count character) }
 {
-    let mut i = 0;
-    while i < count {
-        s[at + i] = character;
-        i += 1;
-    }
-    at + i
+    s[at..at + count].fill(character);
+    at + count
 }
 
 // Stores n in decimal, right-aligned in `width` places, from `at`, and gives the index after it.
@@ -102,12 +94,8 @@ pub fn put_word(s: &mut [u8], at: usize, word: &[u8]) -> usize
     ensures value { result ≡ at + length word.now }
     ensures s_after { s.new ≡ splice s.old at word.now }
 {
-    let mut i = 0;
-    while i < word.len() {
-        s[at + i] = word[i];
-        i += 1;
-    }
-    at + i
+    s[at..at + word.len()].copy_from_slice(word);
+    at + word.len()
 }
 
 // Stores a word of at most 8 bytes, and n in decimal after it.
@@ -120,7 +108,8 @@ pub fn put_named(s: &mut [u8], at: usize, word: &[u8], n: u32) -> usize
     put_decimal(s, a, n)
 }
 
-// Stores a word of at most 3 bytes, and a bit pattern after it.
+// Stores a word of at most 3 bytes, and a bit pattern after it. One function for this and `put_named` would take the second half as a closure, with
+// its contract: longer than the two lines that it would save.
 pub fn put_with_hex(s: &mut [u8], at: usize, word: &[u8], bits: u64) -> usize
     requires { (length word.now ≤ 3) × (at + 19 ≤ length s.old) }
     ensures value { (result ≡ at + length (with_hex word.now bits)) × (result ≤ at + 19) }

@@ -5,10 +5,8 @@ fn lent(i: usize) -> u8 {
 }
 
 pub fn fill(buffer: &mut [u8]) {
-    let mut i = 0;
-    while i < buffer.len() {
-        buffer[i] = lent(i);
-        i += 1;
+    for (i, byte) in buffer.iter_mut().enumerate() {
+        *byte = lent(i);
     }
 }
 
@@ -18,23 +16,12 @@ fn due_at(due: &[u8], i: usize) -> u8 {
 }
 
 pub fn holds(buffer: &[u8], due: &[u8]) -> bool {
-    let mut i = 0;
-    while i < buffer.len() {
-        if buffer[i] != due_at(due, i) {
-            return false;
-        }
-        i += 1;
-    }
-    true
+    buffer
+        .iter()
+        .enumerate()
+        .all(|(i, byte)| *byte == due_at(due, i))
 }
 
 pub fn is_zero(buffer: &[u8]) -> bool {
-    let mut i = 0;
-    while i < buffer.len() {
-        if buffer[i] != 0 {
-            return false;
-        }
-        i += 1;
-    }
-    true
+    buffer.iter().all(|byte| *byte == 0)
 }

@@ -1,73 +1,50 @@
 // A recorded list. An entry is three parts, each behind its length in 32 bits: what goes in, the numbers beside it, and the bytes that
 // are due. The numbers have 32 bits each, with the highest byte first: the buffer's length, the allowance, the answer's number, and what
 // the kind of list adds (jobs.rt, objects.rt).
-ghost use Rattle.std.specs.Prelude.{length};
-ghost use Rattle.vectors.specs.Whole.{Whole};
+ghost use Rattle.std.specs.Prelude.{◌<◌, length, IfSome};
 
 use crate::numbers::word;
 
-// An entry as it stands in a list: where its parts begin and end, the next entry behind the last; the buffer's length and the answer's
-// number. A list that is cut has no entry there: next is 0.
+// An entry of a list.
 #[derive(Clone, Copy)]
-pub struct Entry {
-    pub input: usize,
-    pub input_end: usize,
-    pub numbers: usize,
-    pub numbers_end: usize,
-    pub due: usize,
-    pub next: usize,
-    pub buffer: usize,
-    pub number: u32,
+pub struct Entry<'a> {
+    pub input: &'a [u8],
+    pub numbers: &'a [u8],
+    pub due: &'a [u8],
 }
 
-fn cut() -> Entry
-    ensures { Whole result 0 }
-{
-    Entry {
-        input: 0,
-        input_end: 0,
-        numbers: 0,
-        numbers_end: 0,
-        due: 0,
-        next: 0,
-        buffer: 0,
-        number: 0,
+impl<'a> Entry<'a> {
+    // The buffer's length, and the answer's number.
+    pub fn buffer(&self) -> usize {
+        word(self.numbers, 0) as usize
+    }
+
+    pub fn number(&self) -> u32 {
+        word(self.numbers, 8)
     }
 }
 
-pub fn entry_at(s: &[u8], at: usize) -> Entry
-    ensures { Whole result (length s.now) }
+// The part that a list begins with, and the list after it; nothing where the list is cut.
+fn part<'a>(list: &'a [u8]) -> Option<(&'a [u8], &'a [u8])>
+    ensures { IfSome result (λ p. length p.1.now < length list.now) }
 {
-    if at > s.len() {
-        return cut();
-    }
-    let left = s.len() - at;
-    if left < 12 {
-        return cut();
-    }
-    let input = at + 4;
-    let size = word(s, at) as usize;
-    if left - 12 < size {
-        return cut();
-    }
-    let numbers = input + size + 4;
-    let count = word(s, input + size) as usize;
-    if left - 12 - size < count {
-        return cut();
-    }
-    let due = numbers + count + 4;
-    let length = word(s, numbers + count) as usize;
-    if left - 12 - size - count < length {
-        return cut();
-    }
-    Entry {
-        input,
-        input_end: input + size,
-        numbers,
-        numbers_end: numbers + count,
-        due,
-        next: due + length,
-        buffer: word(s, numbers) as usize,
-        number: word(s, numbers + 8),
-    }
+    let (_, rest) = list.split_at_checked(4)?;
+    rest.split_at_checked(word(list, 0) as usize)
+}
+
+// The entry that a list begins with, and the list after it; nothing where the list is cut.
+pub fn first_entry<'a>(list: &'a [u8]) -> Option<(Entry<'a>, &'a [u8])>
+    ensures { IfSome result (λ p. length p.1.now < length list.now) }
+{
+    let (input, list) = part(list)?;
+    let (numbers, list) = part(list)?;
+    let (due, list) = part(list)?;
+    Some((
+        Entry {
+            input,
+            numbers,
+            due,
+        },
+        list,
+    ))
 }

@@ -9,18 +9,9 @@ mod list;
 mod numbers;
 mod objects;
 
-ghost use Rattle.std.specs.Prelude.{length};
-ghost use Rattle.vectors.specs.Whole.{Whole};
-
 use files::load;
-use list::{Entry, entry_at};
+use list::{Entry, first_entry};
 use std::io;
-
-#[derive(Clone, Copy)]
-enum Kind {
-    Jobs,
-    Objects,
-}
 
 // What was counted: entries, those that differ, and the answers that were due, by number. Numbers are below 32.
 #[derive(Clone, Copy)]
@@ -33,65 +24,53 @@ struct Counts {
 fn counted(counts: Counts, number: u32, agrees: bool) -> Counts {
     let mut due = counts.due;
     let k = (number % 32) as usize;
-    due[k] = std::num::wrapping_add_u32(due[k], 1);
+    due[k] = due[k].wrapping_add(1);
     Counts {
-        entries: std::num::wrapping_add_u32(counts.entries, 1),
-        differ: if agrees {
-            counts.differ
-        } else {
-            std::num::wrapping_add_u32(counts.differ, 1)
-        },
+        entries: counts.entries.wrapping_add(1),
+        differ: counts.differ.wrapping_add(u32::from(!agrees)),
         due,
     }
 }
 
-fn agrees(kind: Kind, input: &[u8], numbers: &[u8], due: &[u8], buffer: &mut [u8]) -> bool {
-    lent::fill(buffer);
-    match kind {
-        Kind::Jobs => jobs::agrees(input, numbers, due, buffer),
-        Kind::Objects => objects::agrees(input, numbers, due, buffer),
-    }
-}
-
-// Replays an entry.
-fn replayed(list: &[u8], kind: Kind, entry: Entry, buffer: &mut [u8], counts: Counts) -> Counts
-    requires { Whole entry (length list.now) }
+// Replays an entry. `agrees` takes what goes in, the numbers, the bytes that are due, and a buffer.
+fn replayed<F: Fn(&[u8], &[u8], &[u8], &mut [u8]) -> bool>(
+    entry: Entry,
+    agrees: &F,
+    buffer: &mut [u8],
+    counts: Counts,
+) -> Counts
+    requires { F.IsAlwaysCallable agrees.now }
 {
-    let input = entry.input;
-    let input_end = entry.input_end;
-    let numbers = entry.numbers;
-    let numbers_end = entry.numbers_end;
-    let due = entry.due;
-    let next = entry.next;
-    let size = entry.buffer;
+    let size = entry.buffer();
     if size > buffer.len() {
-        return counted(counts, entry.number, false);
+        return counted(counts, entry.number(), false);
     }
-    let same = agrees(
-        kind,
-        &list[input..input_end],
-        &list[numbers..numbers_end],
-        &list[due..next],
-        &mut buffer[..size],
-    );
-    counted(counts, entry.number, same)
+    let lent = &mut buffer[..size];
+    lent::fill(lent);
+    let same = agrees(entry.input, entry.numbers, entry.due, lent);
+    counted(counts, entry.number(), same)
 }
 
 // Replays a list. One that is cut counts as one more entry that differs.
-fn replay(list: &[u8], kind: Kind, buffer: &mut [u8]) -> Counts {
+fn replay<F: Fn(&[u8], &[u8], &[u8], &mut [u8]) -> bool>(
+    list: &[u8],
+    agrees: &F,
+    buffer: &mut [u8],
+) -> Counts
+    requires { F.IsAlwaysCallable agrees.now }
+{
     let mut counts = Counts {
         entries: 0,
         differ: 0,
         due: [0; 32],
     };
-    let mut at = 0;
-    while at < list.len() {
-        let entry = entry_at(list, at);
-        if entry.next <= at {
+    let mut list = list;
+    while !list.is_empty() {
+        let Some((first, rest)) = first_entry(list) else {
             return counted(counts, 0, false);
-        }
-        counts = replayed(list, kind, entry, buffer, counts);
-        at = entry.next;
+        };
+        counts = replayed(first, agrees, buffer, counts);
+        list = rest;
     }
     counts
 }
@@ -111,10 +90,8 @@ fn print_refusals(rt: &impl Print, number: u32, count: u32) -> io::Result<()> {
 }
 
 fn print_all_refusals(rt: &impl Print, due: [u32; 32]) -> io::Result<()> {
-    let mut i: u32 = 1;
-    while i < 32 {
+    for i in 1..32 {
         print_refusals(rt, i, due[i as usize])?;
-        i += 1;
     }
     Ok(())
 }
@@ -139,13 +116,13 @@ fn main(rt: HostRuntime) -> io::Result<()> {
         &rt,
         " jobs",
         "charts: ",
-        replay(&list[..size], Kind::Jobs, &mut buffer),
+        replay(&list[..size], &jobs::agrees, &mut buffer),
     )?;
     let size = load(&rt, "objects.bin", &mut list)?;
     report(
         &rt,
         " objects",
         "made: ",
-        replay(&list[..size], Kind::Objects, &mut buffer),
+        replay(&list[..size], &objects::agrees, &mut buffer),
     )
 }

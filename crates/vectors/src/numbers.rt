@@ -27,9 +27,9 @@ pub fn word(s: &[u8], at: usize) -> u32 {
 }
 
 pub fn single(s: &[u8], at: usize) -> f32 {
-    floats::pattern_f32(word(s, at))
+    floats::pattern(word(s, at))
 }
 
 pub fn double(s: &[u8], at: usize) -> f64 {
-    floats::pattern_f64(number(s, at, 8))
+    floats::pattern(number(s, at, 8))
 }

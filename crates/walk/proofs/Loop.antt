@@ -35,7 +35,6 @@ use Rattle.mania.specs.Convert as Convert
 use Rattle.mania.specs.Walked.{Stop, stop, on_walk}
 use Rattle.mania.specs.Range.{InRange}
 use Rattle.mania.specs.Laws.Walks.{before, walk_none, walk_refused, walk_full, walk_made, length_patterns, patterns_more}
-use Rattle.density.specs.Queued.{Held}
 use Rattle.walk.specs.declared.Song.{Song}
 use Rattle.walk.specs.declared.InForce.{InForce}
 use Rattle.walk.specs.declared.Walk.{Walk}
@@ -212,11 +211,10 @@ unfolding facts_at
 facts_of_law points g c q o f = rw (f.beat, f.velocity, f.kiai)
 
 -- the walk begins with an empty pattern
-pub begun : (columns : ℕ) (w : Walk) → walk_of w ≡ beginning → Held w.density → 1 ≤ columns → Sound columns w
+pub begun : (columns : ℕ) (w : Walk) → walk_of w ≡ beginning → 1 ≤ columns → Sound columns w
 unfolding walk_of beginning
-begun columns w e h l =
+begun columns w e l =
     record {
-      held = h;
       mask = subst (λ (x : Convert.Walk). x.prev.mask < 2 ^ columns) (sym e) (pow_pos columns);
       last = subst (λ (x : Convert.Walk). x.prev.last < columns) (sym e) l;
     }

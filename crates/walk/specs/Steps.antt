@@ -1,6 +1,7 @@
 -- What the walk's functions ask and promise. Assumes nothing.
-use Rattle.std.specs.Prelude.{◌≡◌, ℕ, ◌+◌, ◌*◌, ◌^◌, ◌≤◌, ◌<◌, Bool, true, false, not, List, map, ltb, Float, length, take}
+use Rattle.std.specs.Prelude.{◌≡◌, ℕ, ◌+◌, ◌*◌, ◌^◌, ◌≤◌, ◌<◌, Bool, true, false, List, map, Result, Ok, Err, ltb, Float, length, take}
 use Rattle.rules.specs.Numbers as Numbers
+use Rattle.rules.specs.Coded.{code}
 use Rattle.model.specs.Limits.{most_notes, most_entries}
 use Rattle.random.specs.Play.{Answer, found, refused, on}
 use Rattle.random.specs.declared.Draws.{Draws}
@@ -18,7 +19,6 @@ use Rattle.chart.specs.declared.Version.TheVariants.{Two}
 use Rattle.chart.specs.Chart as Bytes
 use Rattle.mania.specs.declared.Facts.{Facts}
 use Rattle.mania.specs.declared.Note.{Note}
-use Rattle.mania.specs.declared.Stair.{Stair}
 use Rattle.mania.specs.Chart.{body, patterns_from, in_walk_order}
 use Rattle.mania.specs.LimitedQueue as Queue
 use Rattle.mania.specs.Made.{Made}
@@ -26,18 +26,16 @@ use Rattle.mania.specs.Object.{object}
 use Rattle.mania.specs.Convert.{SongFacts, walk_after, after_object, beginning, walk}
 use Rattle.mania.specs.Convert as Convert
 use Rattle.mania.specs.Walked.{Stop, stop, on_walk}
-use Rattle.density.specs.Queued.{Held, queued}
-use Rattle.density.specs.declared.Density.{Density}
-use Rattle.pattern.specs.declared.Pattern.{Pattern}
+use Rattle.density.specs.Queued.{queued}
+use Rattle.density.specs.declared.times.Density.{Density}
+use Rattle.random.specs.declared.Refused.{Refused}
+use Rattle.pattern.specs.declared.Made as Lent
 use Rattle.object.specs.Notes.{note_at}
 use Rattle.walk.specs.declared.Song.{Song}
 use Rattle.walk.specs.declared.InForce.{InForce}
 use Rattle.walk.specs.declared.Met.{Met}
 use Rattle.walk.specs.declared.Walk.{Walk}
-use Rattle.walk.specs.declared.Kept.{Kept}
-use Rattle.walk.specs.declared.Step.{Step}
-use Rattle.walk.specs.declared.WalkEnd.{WalkEnd}
-use Rattle.walk.specs.declared.WalkEnd.TheVariants as E
+use Rattle.walk.specs.declared.Stopped.{Stopped}
 use Rattle.walk.specs.Kept.{walk_of}
 
 -- the song's facts: its numbers, and its points, read from the part that starts with the first timing point
@@ -88,7 +86,6 @@ facts_by g c q =
 
 -- the density and the facts that the object meets
 pub record Meets (g : Song) (c : InForce) (before : Density) (o : Object) (m : Met) : Type 0 where
-  pub held : Held m.density
   pub density : queued m.density ≡ Convert.meets o.kind o.start (queued before)
   pub facts : m.facts ≡ facts_by g c (queued m.density)
 
@@ -96,24 +93,16 @@ pub record Meets (g : Song) (c : InForce) (before : Density) (o : Object) (m : M
 abbrev pub too_long : List ℕ → Walk → ℕ → Bool
 too_long entry w n = ltb (length entry) (chart_size (w.notes + n))
 
--- the notes of the object at index i are written after those before, and the walk goes on, unless the chart is too short for them
-abbrev pub KeepsBy : (entry exit words : List ℕ) → ℕ → Object → Met → Pattern → Stair → Walk → Bool → Walk → Type 0
-KeepsBy entry exit words i o m p stair w true x =
-    (too_long entry w p.count ≡ false) × (exit ≡ splice entry (chart_size w.notes) (body i (map (note_at o) (take p.count words))))
-    × Held x.density × (walk_of x ≡ walk_after m.facts o (queued m.density) p.mask p.last stair p.count (walk_of w))
-KeepsBy entry exit words i o m p stair w false x = too_long entry w p.count ≡ true
-
-abbrev pub Keeps : (entry exit words : List ℕ) → ℕ → Object → Met → Pattern → Stair → Walk → Kept → Type 0
-Keeps entry exit words i o m p stair w r = KeepsBy entry exit words i o m p stair w r.fits r.walk
-
--- what an object made is kept, or it is refused by 11
-abbrev pub Finishes : (entry exit words : List ℕ) → ℕ → Object → Met → Pattern → Stair → Walk → Draws → Step → Type 0
-Finishes entry exit words i o m p stair w d r =
-    KeepsBy entry exit words i o m p stair w (not r.refused) r.walk × (r.number ≡ Numbers.chart_too_short) × (r.draws ≡ d)
+-- the notes of the object at index i are written after those before, and the walk goes on, unless the chart is too short for them: 11
+abbrev pub Keeps : (entry exit words : List ℕ) → ℕ → Object → Met → Lent.Made → Walk → Draws → Result (Walk × Draws) Refused → Type 0
+Keeps entry exit words i o m made w d (Ok (x, e)) =
+    (too_long entry w made.pattern.count ≡ false) × (exit ≡ splice entry (chart_size w.notes) (body i (map (note_at o) (take made.pattern.count words))))
+    × (walk_of x ≡ walk_after m.facts o (queued m.density) made.pattern.mask made.pattern.last made.stair made.pattern.count (walk_of w)) × (e ≡ d)
+Keeps entry exit words i o m made w d (Err r) =
+    (too_long entry w made.pattern.count ≡ true) × (code r.refusal ≡ Numbers.chart_too_short) × (r.draws ≡ d)
 
 -- what the walk keeps is for the columns: a previous pattern on the deck
 pub record Sound (columns : ℕ) (w : Walk) : Type 0 where
-  pub held : Held w.density
   pub mask : w.prev.mask < 2 ^ columns
   pub last : w.prev.last < columns
 
@@ -144,12 +133,9 @@ pub data Stops (entry : List ℕ) (g : Song) (c : InForce) (w : Walk) (o : Objec
   full : (made : Made) → object_rule g c w o d ≡ found made e → too_long entry w (length made.notes) ≡ true → n ≡ Numbers.chart_too_short → Stops entry g c w o d n e
 
 -- one object of the walk
-abbrev pub StepsBy : (entry exit : List ℕ) → ℕ → Song → InForce → Walk → Object → Draws → Bool → Step → Type 0
-StepsBy entry exit i g c w o d true r = Stops entry g c w o d r.number r.draws
-StepsBy entry exit i g c w o d false r = Next entry exit i g c w o d r.walk r.draws
-
-abbrev pub Steps : (entry exit : List ℕ) → ℕ → Song → InForce → Walk → Object → Draws → Step → Type 0
-Steps entry exit i g c w o d r = StepsBy entry exit i g c w o d r.refused r
+abbrev pub Steps : (entry exit : List ℕ) → ℕ → Song → InForce → Walk → Object → Draws → Result (Walk × Draws) Refused → Type 0
+Steps entry exit i g c w o d (Ok (x, e)) = Next entry exit i g c w o d x e
+Steps entry exit i g c w o d (Err r) = Stops entry g c w o d (code r.refusal) r.draws
 
 -- the rule of a walk over the objects of the part
 abbrev pub rule : (points part : List ℕ) → Song → ℕ → ℕ → ℕ → Draws → Answer Stop (List (List Note))
@@ -164,6 +150,6 @@ pub record Written (walked : Answer Stop (List (List Note))) (entry exit : List 
   pub few : notes ≤ most_notes * most_entries
   pub room : chart_size notes ≤ length entry
 
-abbrev pub Ends : Answer Stop (List (List Note)) → (entry exit : List ℕ) → WalkEnd → Type 0
-Ends walked entry exit (E.Made notes e) = Written walked entry exit notes e
-Ends walked entry exit (E.Refused n i e) = walked ≡ refused (stop i n) e
+abbrev pub Ends : Answer Stop (List (List Note)) → (entry exit : List ℕ) → Result (ℕ × Draws) Stopped → Type 0
+Ends walked entry exit (Ok (notes, e)) = Written walked entry exit notes e
+Ends walked entry exit (Err s) = walked ≡ refused (stop s.index (code s.refused.refusal)) s.refused.draws

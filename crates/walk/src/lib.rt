@@ -10,22 +10,23 @@ ghost use Rattle.mania.specs.Convert as Convert;
 ghost use Rattle.mania.specs.Convert.{span_in, position_after, time_after, leaves, walk_after};
 ghost use Rattle.mania.specs.PathObject.{span_length};
 ghost use Rattle.mania.specs.Range.{InRange};
-ghost use Rattle.density.specs.Queued.{Held, queued};
+ghost use Rattle.density.specs.Queued.{queued};
 ghost use Rattle.walk.specs.declared.Song.{Song};
 ghost use Rattle.walk.specs.Kept.{walk_of};
-ghost use Rattle.walk.specs.Steps.{Given, InForceOf, InForceAt, Meets, Keeps, Finishes, Sound, Steps, rule, Ends};
+ghost use Rattle.walk.specs.Steps.{Given, InForceOf, InForceAt, Meets, Keeps, Sound, Steps, rule, Ends};
 
 use chart::layout::{HEADER_SIZE, NOTE_SIZE};
-use density::{Density, compute_density, node_time, nodes};
+use density::times::Density;
+use density::{compute_density, node_time, nodes};
 use mania::{Facts, PrevValues, Stair};
-use model::{Distance, Kind, Object, Position};
+use model::{Kind, Object, Position};
 use notes::put_notes;
-use pattern::{ObjectEnd, Pattern};
-use points::{Lasting, LastingFlag, Passed, difficulty_point_at, effect_point_at, timing_point_at};
-use random::Draws;
+use pattern::Made;
+use points::{Lasting, Passed, difficulty_point_at, effect_point_at, timing_point_at};
+use random::{Draws, Outcome, Refused};
 use record::layout::ENTRY;
 use record_object::read_object;
-use rules::numbers;
+use rules::Refusal;
 
 // What the walk keeps between objects; `notes` counts the notes so far.
 #[derive(Clone, Copy)]
@@ -36,7 +37,7 @@ pub struct Walk {
 }
 
 // The length of a slider's span.
-fn span_of(f: Facts, o: Object, repeats: u16, distance: Distance) -> u32
+fn span_of(f: Facts, o: Object, repeats: u16, distance: Option<f64>) -> u32
     ensures { result ≡ span_length f o repeats distance }
 {
     let spans = repeats as u32 + 1;
@@ -55,7 +56,7 @@ fn span_in(f: Facts, o: Object) -> u32
         Kind::Slider {
             repeats,
             distance,
-            node: _,
+            ..
         } => span_of(f, o, repeats, distance),
         Kind::Spinner(_) => 0,
         Kind::Hold(_) => 0,
@@ -64,17 +65,12 @@ fn span_in(f: Facts, o: Object) -> u32
 
 // The density that an object meets: a circle counts in it.
 fn meets(o: Object, d: Density) -> Density
-    requires { Held d }
-    ensures { Held result × (queued result ≡ Convert.meets o.kind o.start (queued d)) }
+    ensures { queued result ≡ Convert.meets o.kind o.start (queued d) }
 {
     let kind = o.kind;
     match kind {
         Kind::Circle => compute_density(d, o.start),
-        Kind::Slider {
-            repeats: _,
-            distance: _,
-            node: _,
-        } => d,
+        Kind::Slider { .. } => d,
         Kind::Spinner(_) => d,
         Kind::Hold(_) => d,
     }
@@ -82,17 +78,12 @@ fn meets(o: Object, d: Density) -> Density
 
 // The density after an object whose span length is given.
 fn density_after(o: Object, span: u32, d: Density) -> Density
-    requires { Held d }
-    ensures { Held result × (queued result ≡ leaves o span o.kind (queued d)) }
+    ensures { queued result ≡ leaves o span o.kind (queued d) }
 {
     let kind = o.kind;
     match kind {
         Kind::Circle => d,
-        Kind::Slider {
-            repeats,
-            distance: _,
-            node: _,
-        } => nodes(d, o, span, repeats as u32 + 2),
+        Kind::Slider { repeats, .. } => nodes(d, o, span, repeats as u32 + 2),
         Kind::Spinner(duration) => compute_density(d, o.start + duration),
         Kind::Hold(duration) => compute_density(d, o.start + duration),
     }
@@ -105,11 +96,7 @@ fn time_after(o: Object, span: u32) -> f64
     let kind = o.kind;
     match kind {
         Kind::Circle => o.start,
-        Kind::Slider {
-            repeats,
-            distance: _,
-            node: _,
-        } => node_time(o, span, repeats as u32 + 1),
+        Kind::Slider { repeats, .. } => node_time(o, span, repeats as u32 + 1),
         Kind::Spinner(duration) => o.start + duration,
         Kind::Hold(duration) => o.start + duration,
     }
@@ -122,11 +109,7 @@ fn position_after(o: Object) -> Position
     let kind = o.kind;
     match kind {
         Kind::Circle => o.position,
-        Kind::Slider {
-            repeats: _,
-            distance: _,
-            node: _,
-        } => o.position,
+        Kind::Slider { .. } => o.position,
         Kind::Spinner(_) => Position { x: 256.0, y: 192.0 },
         Kind::Hold(_) => Position { x: 256.0, y: 192.0 },
     }
@@ -143,8 +126,8 @@ fn after_object(
     count: u32,
     w: Walk,
 ) -> Walk
-    requires { Held met × (w.notes + count < 2 ^ 32) }
-    ensures { Held result.density × (walk_of result ≡ walk_after f o (queued met) mask last stair count (walk_of w)) }
+    requires { w.notes + count < 2 ^ 32 }
+    ensures { walk_of result ≡ walk_after f o (queued met) mask last stair count (walk_of w) }
 {
     let span = span_in(f, o);
     let time = time_after(o, span);
@@ -186,12 +169,12 @@ pub struct Song {
 // The values of the points in force.
 #[derive(Clone, Copy)]
 pub struct InForce {
-    pub beat: Lasting,
-    pub velocity: Lasting,
-    pub kiai: LastingFlag,
+    pub beat: Lasting<f64>,
+    pub velocity: Lasting<f64>,
+    pub kiai: Lasting<bool>,
 }
 
-// What the walk begins with: values that are in force at no time.
+// What the walk begins with: values that are in force at no time. No option: it would be tested at each object.
 fn none_in_force() -> InForce
     ensures { (points : List ℕ) (g : Song) → InForceOf points g result }
 {
@@ -204,7 +187,7 @@ fn none_in_force() -> InForce
     InForce {
         beat: value,
         velocity: value,
-        kiai: LastingFlag {
+        kiai: Lasting {
             value: false,
             passed,
         },
@@ -241,7 +224,6 @@ pub struct Met {
 
 // The density and the facts that an object meets.
 fn meet(g: Song, c: InForce, before: Density, o: Object) -> Met
-    requires { Held before }
     ensures { Meets g c before o result }
 {
     let density = meets(o, before);
@@ -256,34 +238,28 @@ fn meet(g: Song, c: InForce, before: Density, o: Object) -> Met
     Met { density, facts }
 }
 
-// Whether a chart of so many notes fits, and what the walk then keeps. (No enum: what the walk keeps has an array.)
-#[derive(Clone, Copy)]
-pub struct Kept {
-    pub fits: bool,
-    pub walk: Walk,
-}
-
-// Writes an object's notes after those of the objects before it, where the chart has room for them.
+// Writes an object's notes after those of the objects before it, and gives what the walk keeps then; or 11, where the chart has no room for them.
 fn keep(
     chart: &mut [u8],
     words: &[u64],
     index: u32,
     o: Object,
     m: Met,
-    p: Pattern,
-    stair: Stair,
+    made: Made,
     w: Walk,
-) -> Kept
-    requires { (index < indices) × Held m.density × (p.count ≤ most_notes) × (most_notes ≤ length words.now) × (w.notes ≤ most_in_chart) }
-    ensures { Keeps chart.old chart.new words.now index o m p stair w result }
+    d: Draws,
+) -> Outcome<Walk>
+    requires { (index < indices) × (made.pattern.count ≤ most_notes) × (most_notes ≤ length words.now) × (w.notes ≤ most_in_chart) }
+    ensures { Keeps chart.old chart.new words.now index o m made w d result }
 {
+    let p = made.pattern;
     let count = p.count;
     let before = w.notes as usize;
     if chart.len() < HEADER_SIZE + NOTE_SIZE * (before + count) {
-        return Kept {
-            fits: false,
-            walk: w,
-        };
+        return Err(Refused {
+            refusal: Refusal::ChartTooShort,
+            draws: d,
+        });
     }
     put_notes(
         index as u16,
@@ -293,45 +269,17 @@ fn keep(
         chart,
         HEADER_SIZE + NOTE_SIZE * before,
     );
-    let met = m.density;
-    let f = m.facts;
-    let walk = after_object(f, o, met, p.mask, p.last, stair, count as u32, w);
-    Kept { fits: true, walk }
-}
-
-// One object more: what the walk keeps after it, and the draws; or a refusal's number, and the draws.
-#[derive(Clone, Copy)]
-pub struct Step {
-    pub refused: bool,
-    pub number: u8,
-    pub walk: Walk,
-    pub draws: Draws,
-}
-
-// What an object made is kept, or it is refused by 11.
-fn finish(
-    chart: &mut [u8],
-    words: &[u64],
-    index: u32,
-    o: Object,
-    m: Met,
-    p: Pattern,
-    stair: Stair,
-    w: Walk,
-    d: Draws,
-) -> Step
-    requires { (index < indices) × Held m.density × (p.count ≤ most_notes) × (most_notes ≤ length words.now) × (w.notes ≤ most_in_chart) }
-    ensures { Finishes chart.old chart.new words.now index o m p stair w d result }
-{
-    let kept = keep(chart, words, index, o, m, p, stair, w);
-    let walk = kept.walk;
-    let refused = !kept.fits;
-    Step {
-        refused,
-        number: numbers::CHART_TOO_SHORT,
-        walk,
-        draws: d,
-    }
+    let walk = after_object(
+        m.facts,
+        o,
+        m.density,
+        p.mask,
+        p.last,
+        made.stair,
+        count as u32,
+        w,
+    );
+    Ok((walk, d))
 }
 
 // An object is converted, and its notes are written.
@@ -345,37 +293,25 @@ fn convert_object(
     index: u32,
     o: Object,
     d: Draws,
-) -> Step
+) -> Outcome<Walk>
     requires { (index < indices) × (1 ≤ g.columns) × (g.columns ≤ 9) × Sound g.columns w × InRange o × (w.notes ≤ most_in_chart) × (most_notes ≤ length words.old) × (most_notes ≤ length spare.old) }
     ensures { Steps chart.old chart.new index g c w o d result }
 {
-    let before = w.density;
-    let m = meet(g, c, before, o);
-    let f = m.facts;
-    let v = w.prev;
-    match object::generate(f, v, g.columns, o, words, spare, d) {
-        ObjectEnd::Made(p, stair, e) => finish(chart, words, index, o, m, p, stair, w, e),
-        ObjectEnd::Refused(n, e) => {
-            Step {
-                refused: true,
-                number: n,
-                walk: w,
-                draws: e,
-            }
-        }
-    }
+    let m = meet(g, c, w.density, o);
+    let (made, after) = object::generate(m.facts, w.prev, g.columns, o, words, spare, d)?;
+    keep(chart, words, index, o, m, made, w, after)
 }
 
-// How the walk ends: with so many notes, in walk order from byte 8 of the chart on, or with a refusal's number and the object's index; and the draws.
+// A refusal of the walk, and the index of the object that it came to.
 #[derive(Clone, Copy)]
-pub enum WalkEnd {
-    Made(u32, Draws),
-    Refused(u8, u32, Draws),
+pub struct Stopped {
+    pub index: u32,
+    pub refused: Refused,
 }
 
 // `PrevValues::default`, and no density yet.
 fn beginning() -> Walk
-    ensures { Held result.density × (walk_of result ≡ Convert.beginning) }
+    ensures { walk_of result ≡ Convert.beginning }
 {
     let density = density::new();
     Walk {
@@ -391,7 +327,8 @@ fn beginning() -> Walk
     }
 }
 
-// The walk over `count` objects from bit `at` of `part` on; `points` is the part of the record that starts with the first timing point.
+// The walk over `count` objects from bit `at` of `part` on; `points` is the part of the record that starts with the first timing point. It gives how many
+// notes it made, which stand in walk order from byte 8 of the chart on, and the draws after it.
 pub fn walk_objects(
     points: &[u8],
     part: &[u8],
@@ -402,7 +339,7 @@ pub fn walk_objects(
     at: usize,
     count: u32,
     d: Draws,
-) -> WalkEnd
+) -> Result<(u32, Draws), Stopped>
     requires { Given points.now g × Each InRange (objects part.now at count) × (at ≤ 7) × (count ≤ most_entries) × (8 ≤ length chart.old) × (most_notes ≤ length words.old) × (most_notes ≤ length spare.old) }
     ensures { Ends (rule points.now part.now g (length chart.old) at count d) chart.old chart.new result }
 {
@@ -410,21 +347,20 @@ pub fn walk_objects(
     let mut c = none_in_force();
     let mut here = at;
     let mut rest = d;
-    let mut i: u32 = 0;
-    while i < count {
+    for i in 0..count {
         let read = read_object(part, here);
         let o = read.object;
         c = in_force_at(points, g, c, o.start);
-        let s = convert_object(chart, words, spare, g, c, w, i, o, rest);
-        let e = s.draws;
-        if s.refused {
-            return WalkEnd::Refused(s.number, i, e);
+        match convert_object(chart, words, spare, g, c, w, i, o, rest) {
+            Ok((after, left)) => {
+                w = after;
+                rest = left;
+                here = read.next;
+            }
+            Err(refused) => {
+                return Err(Stopped { index: i, refused });
+            }
         }
-        let x = s.walk;
-        w = x;
-        here = read.next;
-        rest = e;
-        i += 1;
     }
-    WalkEnd::Made(w.notes, rest)
+    Ok((w.notes, rest))
 }

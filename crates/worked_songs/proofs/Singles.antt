@@ -1,4 +1,5 @@
 -- Single objects, computed on the rules. Each answer is that of the Rust. Assumes nothing.
+use Rattle.std.specs.Prelude.{Some}
 use mathlib.Core.Path.{◌≡◌, refl}
 use Prim.Native.Nat.{ℕ}
 use mathlib.Core.Bool.{true, false}
@@ -6,8 +7,6 @@ use mathlib.Core.List.{[], ◌∷◌}
 use lib.Ieee.{Float, binary32, binary64, of_bits}
 use Rattle.rules.specs.Rule.{ended, run}
 use Rattle.model.specs.declared.Kind.TheVariants.{Circle, Slider}
-use Rattle.model.specs.declared.Distance.TheVariants as D
-use Rattle.model.specs.declared.NodeSound.TheVariants as N
 use Rattle.model.specs.declared.Object.{Object}
 use Rattle.mania.proofs.Computing.{computing}
 use Rattle.mania.specs.declared.Stair.TheVariants.{Up, Reverse}
@@ -32,7 +31,7 @@ case1 = refl
 case2 :
     let f : Facts = record { difficulty = d 0x400F333333333333; multiplier = d 0x3FF0000000000000; beat = d 0x407F400000000000; velocity = d 0x3FF0000000000000; kiai = false; density = d 0x4069000000000000 } in
     let v : PrevValues = record { time = d 0x416FFFA860000000; position = record { x = s 0x42633333; y = s 0x43400000 }; mask = 3; last = 0; stair = Up } in
-    let o : Object = record { position = record { x = s 0x42633333; y = s 0x43400000 }; start = d 0x416FFFFFE0000000; sound = 0; kind = Slider 1 (D.Given (d 0x4040000000000000)) (N.Given 15) } in
+    let o : Object = record { position = record { x = s 0x42633333; y = s 0x43400000 }; start = d 0x416FFFFFE0000000; sound = 0; kind = Slider 1 (Some (d 0x4040000000000000)) (Some 15) } in
     run (with_room f v 2 o 35700) (1374389536 ∷ []) ≡ ended (record { notes = (record { column = 0; hold = false; start = d 0x416fffffe0000000; duration = d 0x0 } ∷ record { column = 1; hold = false; start = d 0x41700009f0000000; duration = d 0x0 } ∷ record { column = 0; hold = false; start = d 0x41700013f0000000; duration = d 0x0 } ∷ []); mask = 1; last = 0; stair = Up }) 1
 unfolding computing
 case2 = refl
@@ -48,7 +47,7 @@ case3 = refl
 case4 :
     let f : Facts = record { difficulty = d 0x4003333333333333; multiplier = d 0x3FF0000000000000; beat = d 0x407F400000000000; velocity = d 0x3FF0000000000000; kiai = true; density = d 0x4068E00000000000 } in
     let v : PrevValues = record { time = d 0x40845A0000000000; position = record { x = s 0x43000000; y = s 0x43680000 }; mask = 63; last = 1; stair = Up } in
-    let o : Object = record { position = record { x = s 0x43000000; y = s 0x43400000 }; start = d 0x40884A0000000000; sound = 1; kind = Slider 0 (D.Given (d 0x404E000000000000)) (N.Given 4) } in
+    let o : Object = record { position = record { x = s 0x43000000; y = s 0x43400000 }; start = d 0x40884A0000000000; sound = 1; kind = Slider 0 (Some (d 0x404E000000000000)) (Some 4) } in
     run (with_room f v 6 o 35700) (1782411428 ∷ 1352914697 ∷ 1760936592 ∷ []) ≡ ended (record { notes = (record { column = 3; hold = true; start = d 0x4088480000000000; duration = d 0x4072c00000000000 } ∷ record { column = 4; hold = true; start = d 0x4088480000000000; duration = d 0x4072c00000000000 } ∷ []); mask = 24; last = 4; stair = Up }) 3
 unfolding computing
 case4 = refl
@@ -72,7 +71,7 @@ case6 = refl
 case7 :
     let f : Facts = record { difficulty = d 0x4004000000000000; multiplier = d 0x3FF0000000000000; beat = d 0x407F400000000000; velocity = d 0x3FF0000000000000; kiai = false; density = d 0x4069200000000000 } in
     let v : PrevValues = record { time = d 0x409DC20000000000; position = record { x = s 0x43000000; y = s 0x43400000 }; mask = 102; last = 5; stair = Up } in
-    let o : Object = record { position = record { x = s 0x43000000; y = s 0x43400000 }; start = d 0x409F420000000000; sound = 8; kind = Slider 1 (D.Given (d 0x403419999999999A)) (N.Given 8) } in
+    let o : Object = record { position = record { x = s 0x43000000; y = s 0x43400000 }; start = d 0x409F420000000000; sound = 8; kind = Slider 1 (Some (d 0x403419999999999A)) (Some 8) } in
     run (with_room f v 7 o 35700) (1236260165 ∷ 477530087 ∷ 2018634629 ∷ 325760928 ∷ []) ≡ ended (record { notes = (record { column = 4; hold = false; start = d 0x409f400000000000; duration = d 0x0 } ∷ record { column = 1; hold = false; start = d 0x40a0680000000000; duration = d 0x0 } ∷ record { column = 6; hold = false; start = d 0x40a1300000000000; duration = d 0x0 } ∷ []); mask = 0; last = 0; stair = Up }) 4
 unfolding computing
 case7 = refl
@@ -80,7 +79,7 @@ case7 = refl
 case8 :
     let f : Facts = record { difficulty = d 0x4000CCCCCCCCCCCD; multiplier = d 0x3FF0000000000000; beat = d 0x407F400000000000; velocity = d 0x3FF0000000000000; kiai = true; density = d 0x4068E00000000000 } in
     let v : PrevValues = record { time = d 0x409D4E0000000000; position = record { x = s 0x43C00000; y = s 0x43680000 }; mask = 0; last = 0; stair = Reverse } in
-    let o : Object = record { position = record { x = s 0x43C00000; y = s 0x43400000 }; start = d 0x409F420000000000; sound = 8; kind = Slider 0 (D.Given (d 0x404219999999999A)) (N.Given 2) } in
+    let o : Object = record { position = record { x = s 0x43C00000; y = s 0x43400000 }; start = d 0x409F420000000000; sound = 8; kind = Slider 0 (Some (d 0x404219999999999A)) (Some 2) } in
     run (with_room f v 9 o 35700) (2147483647 ∷ 0 ∷ 2061584300 ∷ []) ≡ ended (record { notes = (record { column = 0; hold = true; start = d 0x409f400000000000; duration = d 0x4066a00000000000 } ∷ record { column = 8; hold = true; start = d 0x409f400000000000; duration = d 0x4066a00000000000 } ∷ []); mask = 257; last = 8; stair = Reverse }) 3
 unfolding computing
 case8 = refl
@@ -88,7 +87,7 @@ case8 = refl
 case9 :
     let f : Facts = record { difficulty = d 0xC008000000000000; multiplier = d 0x3FF0000000000000; beat = d 0x408F400000000000; velocity = d 0x3FF0000000000000; kiai = true; density = d 0x4078F00000000000 } in
     let v : PrevValues = record { time = d 0x4094520000000000; position = record { x = s 0x43960000; y = s 0x43400000 }; mask = 15; last = 2; stair = Up } in
-    let o : Object = record { position = record { x = s 0x43960000; y = s 0x43400000 }; start = d 0x409F420000000000; sound = 4; kind = Slider 0 (D.Given (d 0x4028000000000000)) (N.Given 8) } in
+    let o : Object = record { position = record { x = s 0x43960000; y = s 0x43400000 }; start = d 0x409F420000000000; sound = 4; kind = Slider 0 (Some (d 0x4028000000000000)) (Some 8) } in
     run (with_room f v 4 o 35700) (221796794 ∷ 1653562408 ∷ 1417339209 ∷ []) ≡ ended (record { notes = (record { column = 3; hold = true; start = d 0x409f400000000000; duration = d 0x405e000000000000 } ∷ record { column = 2; hold = true; start = d 0x409f400000000000; duration = d 0x405e000000000000 } ∷ []); mask = 12; last = 2; stair = Up }) 3
 unfolding computing
 case9 = refl
@@ -96,7 +95,7 @@ case9 = refl
 case10 :
     let f : Facts = record { difficulty = d 0x0000000000000000; multiplier = d 0x3FF0000000000000; beat = d 0x408F400000000000; velocity = d 0x3FF0000000000000; kiai = true; density = d 0x4078F00000000000 } in
     let v : PrevValues = record { time = d 0x4084FA0000000000; position = record { x = s 0x43960000; y = s 0x43680000 }; mask = 118; last = 2; stair = Up } in
-    let o : Object = record { position = record { x = s 0x43960000; y = s 0x43400000 }; start = d 0x40884A0000000000; sound = 12; kind = Slider 2 (D.Given (d 0x4022444444444444)) (N.Given 4) } in
+    let o : Object = record { position = record { x = s 0x43960000; y = s 0x43400000 }; start = d 0x40884A0000000000; sound = 12; kind = Slider 2 (Some (d 0x4022444444444444)) (Some 4) } in
     run (with_room f v 8 o 35700) (1210620612 ∷ 794568948 ∷ 633544283 ∷ 1197826969 ∷ 1268199179 ∷ 88257797 ∷ 953045552 ∷ []) ≡ ended (record { notes = (record { column = 3; hold = false; start = d 0x4088480000000000; duration = d 0x0 } ∷ record { column = 4; hold = false; start = d 0x408b200000000000; duration = d 0x0 } ∷ record { column = 5; hold = false; start = d 0x408df80000000000; duration = d 0x0 } ∷ record { column = 1; hold = false; start = d 0x4090680000000000; duration = d 0x0 } ∷ []); mask = 0; last = 0; stair = Up }) 7
 unfolding computing
 case10 = refl
@@ -104,7 +103,7 @@ case10 = refl
 case11 :
     let f : Facts = record { difficulty = d 0x4008000000000000; multiplier = d 0x3FF0000000000000; beat = d 0x408F400000000000; velocity = d 0x3FF0000000000000; kiai = true; density = d 0x4078F00000000000 } in
     let v : PrevValues = record { time = d 0x4085CA0000000000; position = record { x = s 0x44000000; y = s 0x43400000 }; mask = 0; last = 0; stair = Up } in
-    let o : Object = record { position = record { x = s 0x44000000; y = s 0x43400000 }; start = d 0x40884A0000000000; sound = 4; kind = Slider 0 (D.Given (d 0x402419999999999A)) (N.Given 2) } in
+    let o : Object = record { position = record { x = s 0x44000000; y = s 0x43400000 }; start = d 0x40884A0000000000; sound = 4; kind = Slider 0 (Some (d 0x402419999999999A)) (Some 2) } in
     run (with_room f v 5 o 35700) (0 ∷ 322122547 ∷ 944892807 ∷ []) ≡ ended (record { notes = (record { column = 4; hold = false; start = d 0x4088480000000000; duration = d 0x0 } ∷ record { column = 0; hold = false; start = d 0x408b680000000000; duration = d 0x0 } ∷ []); mask = 1; last = 0; stair = Up }) 3
 unfolding computing
 case11 = refl
@@ -120,7 +119,7 @@ case12 = refl
 case13 :
     let f : Facts = record { difficulty = d 0x4022000000000000; multiplier = d 0x3FF0000000000000; beat = d 0x408F400000000000; velocity = d 0x3FF0000000000000; kiai = false; density = d 0x4079100000000000 } in
     let v : PrevValues = record { time = d 0x408B500000000000; position = record { x = s 0x43000000; y = s 0x43680000 }; mask = 2; last = 1; stair = Reverse } in
-    let o : Object = record { position = record { x = s 0x43000000; y = s 0x43400000 }; start = d 0x408F400000000000; sound = 6; kind = Slider 0 (D.Given (d 0x4032000000000000)) (N.Given 4) } in
+    let o : Object = record { position = record { x = s 0x43000000; y = s 0x43400000 }; start = d 0x408F400000000000; sound = 6; kind = Slider 0 (Some (d 0x4032000000000000)) (Some 4) } in
     run (with_room f v 3 o 35700) (2147483647 ∷ 1073741824 ∷ 865870041 ∷ 1525849791 ∷ 1525842457 ∷ 447912263 ∷ []) ≡ ended (record { notes = (record { column = 2; hold = true; start = d 0x408f400000000000; duration = d 0x4066800000000000 } ∷ record { column = 0; hold = true; start = d 0x408f400000000000; duration = d 0x4066800000000000 } ∷ []); mask = 5; last = 0; stair = Reverse }) 6
 unfolding computing
 case13 = refl

@@ -1,12 +1,11 @@
 -- Whole jobs, computed on the rules. Each end is that of the Rust. Assumes nothing.
+use Rattle.std.specs.Prelude.{Some, None}
 use mathlib.Core.Path.{◌≡◌, refl}
 use Prim.Native.Nat.{ℕ}
 use mathlib.Core.Bool.{true, false}
 use mathlib.Core.List.{[], ◌∷◌}
 use lib.Ieee.{Float, binary32, binary64, of_bits}
 use Rattle.model.specs.declared.Kind.TheVariants.{Circle, Slider, Spinner, Hold}
-use Rattle.model.specs.declared.Distance.TheVariants as D
-use Rattle.model.specs.declared.NodeSound.TheVariants as N
 use Rattle.model.specs.Song.{Song}
 use Rattle.mania.specs.Job.{accepted, refusal, job}
 use lib.ListN.{replicate}
@@ -52,7 +51,7 @@ song2_song =
       objects =
           (record { position = record { x = s 0x4380acbe; y = s 0x432338fb }; start = d 0x0; sound = 0; kind = Hold (d 0x0) }
           ∷ record { position = record { x = s 0x4375597c; y = s 0x431338fb }; start = d 0x40a3880000000000; sound = 1; kind = Hold (d 0x4164f8dda0000000) }
-          ∷ record { position = record { x = s 0x43908000; y = s 0x43380000 }; start = d 0x40bd9cc000000000; sound = 0; kind = Slider 6 (D.Given (d 0x4063a70a3d70a3d6)) N.Missing }
+          ∷ record { position = record { x = s 0x43908000; y = s 0x43380000 }; start = d 0x40bd9cc000000000; sound = 0; kind = Slider 6 (Some (d 0x4063a70a3d70a3d6)) None }
           ∷ record { position = record { x = s 0x438a8000; y = s 0x43280000 }; start = d 0x40c8926000000000; sound = 7; kind = Hold (d 0x0) }
           ∷ record { position = record { x = s 0x447700ed; y = s 0xc3f60000 }; start = d 0x40d12b3000000000; sound = 9; kind = Spinner (d 0x4168982160000000) }
           ∷ []);
@@ -72,7 +71,7 @@ song3_song =
       difficulty_points = ([]);
       effect_points = (record { time = d 0x4093ac0000000000; kiai = true } ∷ record { time = d 0x40bd7c0000000000; kiai = false } ∷ []);
       objects =
-          (record { position = record { x = s 0x43ad7ca6; y = s 0x4322c893 }; start = d 0x4064000000000000; sound = 6; kind = Slider 5 (D.Given (d 0x4034400000000000)) (N.Given 1) }
+          (record { position = record { x = s 0x43ad7ca6; y = s 0x4322c893 }; start = d 0x4064000000000000; sound = 6; kind = Slider 5 (Some (d 0x4034400000000000)) (Some 1) }
           ∷ record { position = record { x = s 0x43ad7ca6; y = s 0x4322c893 }; start = d 0x4072200000000000; sound = 15; kind = Circle }
           ∷ record { position = record { x = s 0x40400000; y = s 0x43400000 }; start = d 0x407ae00000000000; sound = 1; kind = Circle }
           ∷ record { position = record { x = s 0x41980000; y = s 0x434c0000 }; start = d 0x4081d00000000000; sound = 13; kind = Circle }
@@ -116,9 +115,9 @@ song5_song =
       difficulty_points = (record { time = d 0x406fa00000000000; velocity = d 0x3ff0000000000000 } ∷ record { time = d 0x407a800000000000; velocity = d 0x3fe0000000000000 } ∷ []);
       effect_points = (record { time = d 0x4092200000000000; kiai = false } ∷ record { time = d 0x40ac3a0000000000; kiai = true } ∷ []);
       objects =
-          (record { position = record { x = s 0x43aa0000; y = s 0xc1d00000 }; start = d 0x4093100000000000; sound = 0; kind = Slider 3 (D.Given (d 0x40820754c496ffde)) (N.Given 5) }
-          ∷ record { position = record { x = s 0x42a00000; y = s 0x41900000 }; start = d 0x409ae00000000000; sound = 0; kind = Slider 0 (D.Given (d 0x406805ed5c1357b5)) (N.Given 5) }
-          ∷ record { position = record { x = s 0x44008000; y = s 0x41900000 }; start = d 0x40a00a999999999a; sound = 1; kind = Slider 2 (D.Given (d 0x40303269960d1463)) N.Missing }
+          (record { position = record { x = s 0x43aa0000; y = s 0xc1d00000 }; start = d 0x4093100000000000; sound = 0; kind = Slider 3 (Some (d 0x40820754c496ffde)) (Some 5) }
+          ∷ record { position = record { x = s 0x42a00000; y = s 0x41900000 }; start = d 0x409ae00000000000; sound = 0; kind = Slider 0 (Some (d 0x406805ed5c1357b5)) (Some 5) }
+          ∷ record { position = record { x = s 0x44008000; y = s 0x41900000 }; start = d 0x40a00a999999999a; sound = 1; kind = Slider 2 (Some (d 0x40303269960d1463)) None }
           ∷ record { position = record { x = s 0x43f78000; y = s 0x43c38000 }; start = d 0x40bb8d8ccccccccd; sound = 0; kind = Hold (d 0x0) }
           ∷ record { position = record { x = s 0x43fe9232; y = s 0x43ca9232 }; start = d 0x40c78ac666666666; sound = 8; kind = Hold (d 0x4058f9999999999a) }
           ∷ []);
@@ -138,10 +137,10 @@ song6_song =
       difficulty_points = ([]);
       effect_points = (record { time = d 0x409e200000000000; kiai = true } ∷ record { time = d 0x40c0348000000000; kiai = false } ∷ []);
       objects =
-          (record { position = record { x = s 0xc0800000; y = s 0x42080000 }; start = d 0x0; sound = 0; kind = Slider 11 (D.Given (d 0x4090aaaaaaaaaaab)) N.Missing }
+          (record { position = record { x = s 0xc0800000; y = s 0x42080000 }; start = d 0x0; sound = 0; kind = Slider 11 (Some (d 0x4090aaaaaaaaaaab)) None }
           ∷ record { position = record { x = s 0x43d00000; y = s 0x432e0000 }; start = d 0x408f400000000000; sound = 0; kind = Circle }
-          ∷ record { position = record { x = s 0x433b0000; y = s 0x428e0000 }; start = d 0x4094d53333333333; sound = 7; kind = Slider 0 (D.Given (d 0x3ff55554a260594e)) (N.Given 13) }
-          ∷ record { position = record { x = s 0x43280000; y = s 0x41100000 }; start = d 0x40b95d4ccccccccd; sound = 11; kind = Slider 9 (D.Given (d 0x4009c284dfce3151)) (N.Given 9) }
+          ∷ record { position = record { x = s 0x433b0000; y = s 0x428e0000 }; start = d 0x4094d53333333333; sound = 7; kind = Slider 0 (Some (d 0x3ff55554a260594e)) (Some 13) }
+          ∷ record { position = record { x = s 0x43280000; y = s 0x41100000 }; start = d 0x40b95d4ccccccccd; sound = 11; kind = Slider 9 (Some (d 0x4009c284dfce3151)) (Some 9) }
           ∷ record { position = record { x = s 0xbf800000; y = s 0x43a48000 }; start = d 0x40baaa999999999a; sound = 0; kind = Circle }
           ∷ []);
     }
@@ -205,7 +204,7 @@ song9_song =
       effect_points = (record { time = d 0xc14df92a80000000; kiai = true } ∷ record { time = d 0x0; kiai = true } ∷ []);
       objects =
           (record { position = record { x = s 0x43108000; y = s 0xc4000000 }; start = d 0x4059000000000000; sound = 14; kind = Circle }
-          ∷ record { position = record { x = s 0x40c00000; y = s 0x43c58000 }; start = d 0x40b43c0000000000; sound = 1; kind = Slider 0 (D.Given (d 0x0)) (N.Given 10) }
+          ∷ record { position = record { x = s 0x40c00000; y = s 0x43c58000 }; start = d 0x40b43c0000000000; sound = 1; kind = Slider 0 (Some (d 0x0)) (Some 10) }
           ∷ record { position = record { x = s 0x44254771; y = s 0x447fffff }; start = d 0x40c3e20000000000; sound = 14; kind = Spinner (d 0x4058f9999999999a) }
           ∷ record { position = record { x = s 0xc3cfbc9b; y = s 0x443ea000 }; start = d 0x40cda60000000000; sound = 5; kind = Spinner (d 0x40590000000112e1) }
           ∷ record { position = record { x = s 0x4453bcd9; y = s 0xc4000000 }; start = d 0x40d3b50000000000; sound = 13; kind = Spinner (d 0x4058fffffffeed1f) }
@@ -229,7 +228,7 @@ song10_song =
           (record { position = record { x = s 0x43340000; y = s 0x433a0000 }; start = d 0x416ffeabc0000000; sound = 3; kind = Circle }
           ∷ record { position = record { x = s 0x43ee8000; y = s 0x41d00000 }; start = d 0x416ffebfc0000000; sound = 6; kind = Circle }
           ∷ record { position = record { x = s 0x43e08000; y = s 0x43490000 }; start = d 0x416ffed0a3333333; sound = 15; kind = Circle }
-          ∷ record { position = record { x = s 0x43980000; y = s 0x41400000 }; start = d 0x416ffee493333333; sound = 0; kind = Slider 0 (D.Given (d 0x40101eb851eb851e)) (N.Given 13) }
+          ∷ record { position = record { x = s 0x43980000; y = s 0x41400000 }; start = d 0x416ffee493333333; sound = 0; kind = Slider 0 (Some (d 0x40101eb851eb851e)) (Some 13) }
           ∷ record { position = record { x = s 0x43d30000; y = s 0x431b0000 }; start = d 0x416ffeee83333333; sound = 11; kind = Circle }
           ∷ []);
     }
@@ -249,10 +248,10 @@ song11_song =
       effect_points = (record { time = d 0xc076400000000000; kiai = false } ∷ record { time = d 0x40b7e20000000000; kiai = false } ∷ []);
       objects =
           (record { position = record { x = s 0x43e82643; y = s 0x42b9a8ff }; start = d 0x409cc80000000000; sound = 0; kind = Hold (d 0x40a7700000000000) }
-          ∷ record { position = record { x = s 0x0; y = s 0x43300000 }; start = d 0x40a2750000000000; sound = 11; kind = Slider 0 (D.Given (d 0x404e3f0b8f279dce)) (N.Given 10) }
+          ∷ record { position = record { x = s 0x0; y = s 0x43300000 }; start = d 0x40a2750000000000; sound = 11; kind = Slider 0 (Some (d 0x404e3f0b8f279dce)) (Some 10) }
           ∷ record { position = record { x = s 0x428c0000; y = s 0x42aa0000 }; start = d 0x40a4050000000000; sound = 2; kind = Hold (d 0x4059400000000000) }
-          ∷ record { position = record { x = s 0x43c80000; y = s 0x43b48000 }; start = d 0x40aa950000000000; sound = 0; kind = Slider 11 (D.Given (d 0x407104b27f4e66f5)) (N.Given 12) }
-          ∷ record { position = record { x = s 0x43d1ffdf; y = s 0x43b48000 }; start = d 0x40b1328000000000; sound = 0; kind = Slider 8 (D.Given (d 0x405a78de4fc85947)) (N.Given 1) }
+          ∷ record { position = record { x = s 0x43c80000; y = s 0x43b48000 }; start = d 0x40aa950000000000; sound = 0; kind = Slider 11 (Some (d 0x407104b27f4e66f5)) (Some 12) }
+          ∷ record { position = record { x = s 0x43d1ffdf; y = s 0x43b48000 }; start = d 0x40b1328000000000; sound = 0; kind = Slider 8 (Some (d 0x405a78de4fc85947)) (Some 1) }
           ∷ []);
     }
 
@@ -270,11 +269,11 @@ song12_song =
       difficulty_points = ([]);
       effect_points = (record { time = d 0xc080180000000000; kiai = true } ∷ record { time = d 0x409ed80000000000; kiai = true } ∷ []);
       objects =
-          (record { position = record { x = s 0x434d00fa; y = s 0x4273c2ad }; start = d 0x40a3460000000000; sound = 0; kind = Slider 7 (D.Given (d 0x4051fa3d70a3d70a)) N.Missing }
-          ∷ record { position = record { x = s 0x434100fa; y = s 0x4233c2ad }; start = d 0x40abb60000000000; sound = 0; kind = Slider 0 (D.Given (d 0x402c8c49ba5e353f)) (N.Given 0) }
-          ∷ record { position = record { x = s 0x43110000; y = s 0xc1300000 }; start = d 0x40ad460000000000; sound = 8; kind = Slider 1 (D.Given (d 0x4033ac8b43958106)) (N.Given 1) }
-          ∷ record { position = record { x = s 0x431e0000; y = s 0x43580000 }; start = d 0x40b3cb0000000000; sound = 2; kind = Slider 10 (D.Given (d 0x403d36c8b4395811)) (N.Given 14) }
-          ∷ record { position = record { x = s 0x432a0000; y = s 0x43680000 }; start = d 0x40b8030000000000; sound = 6; kind = Slider 7 (D.Given (d 0x40301c28f5c28f5c)) (N.Given 5) }
+          (record { position = record { x = s 0x434d00fa; y = s 0x4273c2ad }; start = d 0x40a3460000000000; sound = 0; kind = Slider 7 (Some (d 0x4051fa3d70a3d70a)) None }
+          ∷ record { position = record { x = s 0x434100fa; y = s 0x4233c2ad }; start = d 0x40abb60000000000; sound = 0; kind = Slider 0 (Some (d 0x402c8c49ba5e353f)) (Some 0) }
+          ∷ record { position = record { x = s 0x43110000; y = s 0xc1300000 }; start = d 0x40ad460000000000; sound = 8; kind = Slider 1 (Some (d 0x4033ac8b43958106)) (Some 1) }
+          ∷ record { position = record { x = s 0x431e0000; y = s 0x43580000 }; start = d 0x40b3cb0000000000; sound = 2; kind = Slider 10 (Some (d 0x403d36c8b4395811)) (Some 14) }
+          ∷ record { position = record { x = s 0x432a0000; y = s 0x43680000 }; start = d 0x40b8030000000000; sound = 6; kind = Slider 7 (Some (d 0x40301c28f5c28f5c)) (Some 5) }
           ∷ []);
     }
 

@@ -22,6 +22,3 @@ overflow_mul-result c =
 pub overflow_add-result : goal.overflow_add-result
 overflow_add-result c =
     rw c.power-p.ensures (record { fits = fits c.args.v _ c.args.k (omega arith) c.requires.2 (mod-lt _ (pow_pos c.args.k)) })
-
-pub returns : goal.returns
-returns c = rw (c.power-p.ensures, c.power.ensures)

@@ -5,6 +5,3 @@ use Rattle.bits.proofs.read32.Goals as goal
 
 pub overflow_cast-result : goal.overflow_cast-result
 overflow_cast-result c = rw c.read_bits.ensures (record { fits = bits_lt _ _ 32 })
-
-pub returns : goal.returns
-returns c = c.read_bits.ensures

@@ -1,6 +1,6 @@
 -- `bits::read_by_bytes` meets its contract. The loop's invariant: v is the field's first `done` bits. Each turn ends at a byte's end or at the field's.
 -- Assumes nothing.
-use mathlib.Core.Path.{refl, sym, ap, ◌∙◌}
+use mathlib.Core.Path.{refl, sym, ◌∙◌}
 use Prim.Native.Nat.{ℕ, ◌+◌, ◌/◌, ◌%◌}
 use native.Mathlib.Nat.{lt_of_lt_of_le}
 use native.Mathlib.Omega.{arith}
@@ -24,7 +24,4 @@ loop-done-preserved c =
     let a = c.args in
     let at-loop = c.loop-done in
     let here : ℕ = a.at + at-loop.done in
-    (omega arith, c.joined-v.ensures ∙ rw (at-loop.invariant.1, c.byte_at-b.ensures) (sym (bits_more a.s.now a.at at-loop.done (here / 8) (here % 8) c.least-k.result (omega arith) (omega arith))))
-
-pub returns : goal.returns
-returns c = c.loop-done.invariant.1 ∙ ap (bits _ _) (omega arith)
+    (omega arith, c.joined-v.ensures ∙ rw (at-loop.invariant.1, c.byte_at-b.ensures) (sym (bits_more a.s.now a.at at-loop.done (here / 8) (here % 8) c.min-k.result (omega arith) (omega arith))))

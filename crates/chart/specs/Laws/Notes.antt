@@ -1,6 +1,6 @@
 -- Notes in bytes: what they say, and what is stored of them.
 -- Assumes nothing.
-use Rattle.std.specs.Prelude.{◌≡◌, refl, Bool, true, false, cond, leb, get_or, take, set}
+use Rattle.std.specs.Prelude.{◌≡◌, refl, Bool, true, false, cond, leb, get_or, take, set, None, Some, Option}
 use Rattle.std.proofs.Common.{sym, ap, ap₂, ◌∙◌, ⊎_elim, add-zero, add-one, arith, length-drop, take_at, drop-drop, get_or-drop, length-take-le, le-leb}
 use mathlib.Core.List.{List, [], ◌∷◌, ◌++◌, append_assoc, append-nil}
 use Prim.Native.Nat.{ℕ, zero, suc, ◌+◌, ◌*◌, ◌/◌, ◌%◌, ◌^◌, ◌≤◌, ◌<◌}
@@ -11,8 +11,6 @@ use Rattle.rules.specs.Each.{Each}
 use Rattle.chart.specs.Layout.{chart_size_in, note_size_in, head_size, column_unit, hold_unit, zero_unit, version_number, column_values}
 use Rattle.chart.specs.declared.Version.{Version}
 use Rattle.chart.specs.declared.Version.TheVariants.{One, Two}
-use Rattle.chart.specs.declared.Origin.{Origin}
-use Rattle.chart.specs.declared.Origin.TheVariants.{Untold, Object}
 use Rattle.chart.specs.declared.Note.{Note}
 use Rattle.chart.specs.Bytes.{Bytes, be, num, splice}
 use Rattle.chart.specs.Chart.{index, head, note_bytes, body, header, encode, head_of, origin_of, note_of, notes_of, Holds, Tells}
@@ -87,7 +85,7 @@ unfolding num
 head_one s = omega arith
 
 pub note_at_one : {b d : ℕ} (s : List ℕ) (i : ℕ) → b ≡ num 8 (drop (i + 1) s) → d ≡ num 8 (drop (i + 9) s)
-    → ◌≡◌ {A = Note} (record { column = get_or s i 0 / 16; hold = leb 8 (get_or s i 0 % 16); origin = Untold; start = b; duration = d }) (note_of One (drop i s))
+    → ◌≡◌ {A = Note} (record { column = get_or s i 0 / 16; hold = leb 8 (get_or s i 0 % 16); origin = None; start = b; duration = d }) (note_of One (drop i s))
 unfolding note_of
 note_at_one s i b d = rw (head_one (drop i s), get_or-drop i s 0 0, add-zero i, drop-drop 1 i s, drop-drop 9 i s, b, d)
 
@@ -140,23 +138,23 @@ encode_put v s columns draws ns l =
 -- ---- what is read back
 
 -- what a head says, as a number x
-pub record Says (v : Version) (c : ℕ) (h : Bool) (o : Origin) (x : ℕ) : Type 0 where
+pub record Says (v : Version) (c : ℕ) (h : Bool) (o : Option ℕ) (x : ℕ) : Type 0 where
   pub column : x / column_unit v ≡ c
   pub hold : leb (hold_unit v) (x % column_unit v) ≡ h
   pub origin : origin_of v x ≡ o
   pub zeros : x % zero_unit v ≡ 0
   pub fits : c < column_values → x < 256 ^ head_size v
 
-says : (v : Version) (c : ℕ) (h : Bool) (o : Origin) → Tells v o → Says v c h o (c * column_unit v + cond h (hold_unit v) 0 + index o * zero_unit v)
+says : (v : Version) (c : ℕ) (h : Bool) (o : Option ℕ) → Tells v o → Says v c h o (c * column_unit v + cond h (hold_unit v) 0 + index o * zero_unit v)
 unfolding Tells
-says One c true Untold t = record { column = omega arith; hold = le-leb 8 ((c * 16 + 8 + 0 * 8) % 16) (omega arith); origin = refl; zeros = omega arith; fits = λ l. omega arith }
-says One c false Untold t = record { column = omega arith; hold = lt-leb 8 ((c * 16 + 0 + 0 * 8) % 16) (omega arith); origin = refl; zeros = omega arith; fits = λ l. omega arith }
-says One c h (Object i) t = absurd t
-says Two c h Untold t = absurd t
-says Two c true (Object i) t =
+says One c true None t = record { column = omega arith; hold = le-leb 8 ((c * 16 + 8 + 0 * 8) % 16) (omega arith); origin = refl; zeros = omega arith; fits = λ l. omega arith }
+says One c false None t = record { column = omega arith; hold = lt-leb 8 ((c * 16 + 0 + 0 * 8) % 16) (omega arith); origin = refl; zeros = omega arith; fits = λ l. omega arith }
+says One c h (Some i) t = absurd t
+says Two c h None t = absurd t
+says Two c true (Some i) t =
     let same : (c * 1048576 + 524288 + i * 128) / 128 % 4096 ≡ i = omega arith in
     record { column = omega arith; hold = le-leb 524288 ((c * 1048576 + 524288 + i * 128) % 1048576) (omega arith); origin = rw same; zeros = omega arith; fits = λ l. omega arith }
-says Two c false (Object i) t =
+says Two c false (Some i) t =
     let same : (c * 1048576 + 0 + i * 128) / 128 % 4096 ≡ i = omega arith in
     record { column = omega arith; hold = lt-leb 524288 ((c * 1048576 + 0 + i * 128) % 1048576) (omega arith); origin = rw same; zeros = omega arith; fits = λ l. omega arith }
 

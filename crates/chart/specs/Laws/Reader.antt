@@ -196,6 +196,12 @@ unfolding reading_of
 refused_none none n e = refl
 refused_none (some c) n e = absurd (let y : ◌≡◌ {A = ℕ} 0 1 = cc in omega arith)
 
+-- the reader has one refusal
+pub refused_broken : (o : Option Score) (n : ℕ) → refused n ≡ reading_of o → n ≡ Numbers.broken_chart
+unfolding reading_of
+refused_broken none n e = cc
+refused_broken (some c) n e = absurd (let y : ◌≡◌ {A = ℕ} 0 1 = cc in omega arith)
+
 -- ---- a note of a place
 
 module _ (s : List ℕ) (i : ℕ) where

@@ -14,9 +14,9 @@ pub returns-then-chart-lt-HEADER_SIZE : goal.returns-then-chart-lt-HEADER_SIZE
 unfolding head_tests
 returns-then-chart-lt-HEADER_SIZE c = head_refused _ 0 (lt-leb 8 _ c.if-chart-lt-HEADER_SIZE.true)
 
-pub returns-then-chart-number : goal.returns-then-chart-number
+pub returns-then-chart-from : goal.returns-then-chart-from
 unfolding head_tests
-returns-then-chart-number c = head_refused _ 1 (ne_eqb _ _ (λ e. c.if-chart-number.true (e ∙ sym (c.number.ensures ∙ ap version_number c.version_of-version.ensures))))
+returns-then-chart-from c = head_refused _ 1 (ne_eqb _ _ (λ e. c.if-chart-from.true (e ∙ sym (c.from.ensures ∙ ap version_number c.version_of-version.ensures))))
 
 pub returns-then-chart-lt1 : goal.returns-then-chart-lt1
 unfolding head_tests columns_of
@@ -29,6 +29,6 @@ returns-then-chart-gt9 c = head_refused _ 3 (lt-leb _ 9 c.if-chart-gt9.true)
 pub returns : goal.returns
 unfolding columns_of count_of
 returns c = let v = c.version_of-version.ensures in
-    let number = c.number.ensures ∙ ap version_number v in
-    let first : get_or c.args.chart.now 0 0 / 16 ≡ c.number.result = search rules in
+    let number = c.from.ensures ∙ ap version_number v in
+    let first : get_or c.args.chart.now 0 0 / 16 ≡ c.from.result = search rules in
     rw (c.place.ensures.0, c.get.ensures.0, v) (head_decided _ (search rules) (first ∙ number) (search rules) (search rules))

@@ -1,5 +1,5 @@
 use mathlib.Core.Path.{◌≡◌}
-use Prim.Native.Nat.{◌-◌, ◌≤◌, ◌<◌}
+use Prim.Native.Nat.{◌-◌, ◌<◌}
 use lib.ListN.{drop}
 use Rattle.chart.specs.Layout.{chart_size_in, column_values}
 use Rattle.chart.specs.Chart.{ok_rows}
@@ -8,8 +8,5 @@ use Rattle.chart_reader.proofs.rows_ok.Given as goal
 
 abbrev pub invariant-loop-i : goal.invariant-loop-i
 invariant-loop-i l =
-    (l.i ≤ l.count) × (l.last.column < column_values)
+    (l.last.column < column_values)
     × (ok_rows l.version l.columns (rank l.last) (l.count - l.i) (drop (chart_size_in l.version l.i) l.chart) ≡ ok_rows l.version l.columns 0 l.count (drop 8 l.chart))
-
-abbrev pub decreases-loop-i : goal.decreases-loop-i
-decreases-loop-i l = l.count - l.i

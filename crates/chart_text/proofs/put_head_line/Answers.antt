@@ -1,16 +1,8 @@
--- `chart_text::put_head_line` meets its contract: the parts of the line stand side by side (`wrote_next`). Assumes nothing.
-use Rattle.text.specs.Text.{ascii, named}
-use Rattle.text.specs.Laws.{wrote_first, wrote_next}
-use Rattle.chart_text.specs.Text.{head_line}
-use borrow.Author.Rules.{rules}
+-- `chart_text::put_head_line` meets its contract: the line is one of two numbers and the draws. Assumes nothing.
+use Rattle.text.specs.Text.{ascii}
+use Rattle.chart_text.specs.Text.{draws_line, head_line}
 use Rattle.chart_text.proofs.put_head_line.Goals as goal
 
 pub returns : goal.returns
-unfolding head_line ascii
-returns c =
-    let a = c.args in
-    let line₁ = wrote_first (named (ascii "columns ") a.columns) c.put_named-a.ensures.s_after c.put_named-a.ensures.value.0 in
-    let line₂ = wrote_next (named (ascii " notes ") a.notes) line₁ c.put_named-b.ensures.s_after c.put_named-b.ensures.value.0 (search rules) in
-    let line₃ = wrote_next (named (ascii " draws ") a.draws) line₂ c.put_named-c.ensures.s_after c.put_named-c.ensures.value.0 (search rules) in
-    let line = wrote_next (ascii "\n") line₃ c.put_word.ensures.s_after c.put_word.ensures.value (search rules) in
-    record { value = (line.next, search rules); s_after = line.bytes }
+unfolding draws_line head_line ascii
+returns c = c.put_draws_line.ensures

@@ -1,6 +1,5 @@
-use mathlib.Core.Path.{◌≡◌}
-use Prim.Native.Nat.{◌+◌, ◌-◌, ◌*◌, ◌≤◌}
-use lib.ListN.{length, take}
+use Prim.Native.Nat.{◌+◌, ◌*◌, ◌≤◌}
+use lib.ListN.{take}
 use Rattle.chart.specs.Chart.{notes_in}
 use Rattle.chart_text.specs.Text.{note_lines}
 use Rattle.text.specs.Laws.{Wrote}
@@ -8,7 +7,7 @@ use Rattle.chart_text.proofs.put_note_lines.Given as goal
 
 abbrev pub invariant-loop-i : goal.invariant-loop-i
 invariant-loop-i l =
-    (l.i ≤ l.count) × ((l.next ≤ l.at + 51 * l.i) × ((length l.s ≡ length l.initial.s) × Wrote l.initial.s l.at (note_lines (take l.i (notes_in l.chart))) l.s l.next))
-
-abbrev pub decreases-loop-i : goal.decreases-loop-i
-decreases-loop-i l = l.count - l.i
+    record {
+      most : l.next ≤ l.at + 51 * l.i;
+      lines : Wrote l.initial.s l.at (note_lines (take l.i (notes_in l.chart))) l.s l.next;
+    }

@@ -1,54 +1,48 @@
--- `circle_notes::add_each` meets its contract. The invariant is `Each`: the rest of the rule comes to what the whole comes to. Assumes nothing.
+-- `circle_notes::add_each` meets its contract. The invariant: at most i notes, and the rest of the rule comes to what the whole comes to. Assumes nothing.
 use mathlib.Core.Path.{refl, sym, ap, subst, ◌∙◌}
 use Prim.Native.Nat.{◌-◌}
 use native.Mathlib.Omega.{arith}
-use Rattle.rules.specs.Refusal.{ObjectRule}
 use Rattle.random.specs.Play.{on}
+use Rattle.random.specs.Laws.Try.{goes_on, leaves}
 use Rattle.mania.specs.declared.Note.{Note}
 use Rattle.mania.specs.Pattern.{Pattern}
 use Rattle.mania.specs.PatternGenerator.{random_start}
-use Rattle.mania.specs.HitObject.{add_each}
+use Rattle.mania.specs.HitObject.{add_one, add_each}
+use Rattle.pattern.specs.Answers.{AtMost}
+use Rattle.pattern.specs.Laws.Exits.{none_placed}
 use Rattle.pattern.specs.Laws.Searches.{start_le}
-use Rattle.pattern.specs.Answers.{placed, AtMost}
 use Rattle.pattern.specs.Laws.Words.{empty_is}
-use Rattle.circle_notes.proofs.Loops.{goal, each_whole, each_more, each_refused, each_end}
+use Rattle.circle_notes.proofs.Loops.{each_more, each_end}
 use Rattle.circle_notes.proofs.add_each.Goals as goal
 
 pub loop-i-init : goal.loop-i-init
-loop-i-init c =
+loop-i-init g c =
     let a = c.args in
-    let e = c.random_start-i.ensures in
-    record {
-      same = refl;
-      many = omega arith;
-      within = rw e (start_le _);
-      goes = rw e (ap (λ (p : Pattern Note). on (add_each a.g (goal a.g a.turn) (a.g.columns - random_start a.g.columns) (random_start a.g.columns) p) a.d) (empty_is _ _) ∙ ap (λ (r : ObjectRule (Pattern Note)). on r a.d) (each_whole a.g a.turn));
-    }
+    (refl, omega arith, λ t h. rw c.random_start-low.ensures (ap (λ (p : Pattern Note). on (add_each a.g t (a.g.columns - random_start a.g.columns) (random_start a.g.columns) p) a.d) (empty_is _ _)))
+
+pub returns-in_err-q : goal.returns-in_err-q
+returns-in_err-q g c =
+    let l = c.loop-i in let exit = c.from_residual.ensures.1 in (
+      λ t h.
+          leaves _ (add_one _ _ _ _) _ _ _ _ _ _ c.add_one.ensures.0 c.in_err-q.was exit
+          ∙ sym (each_more _ _ _ _ _ c.loop-i-test.true _ (h _ _ c.loop-i-test.true c.to-c.ensures)) ∙ l.invariant.2 t h,
+      none_placed _ _ c.from_residual.result exit,
+    )
 
 pub loop-i-preserved : goal.loop-i-preserved
-loop-i-preserved c =
-    let l = c.loop-i in
-    record {
-      same = omega arith;
-      many = omega (arith, subst (AtMost _) c.in-Notes.is c.add_one.ensures.1);
-      within = omega arith;
-      goes =
-          sym (each_more _ _ _ _ _ c.loop-i-test.true _ c.goal_of-c.ensures _ _
-          (sym c.add_one.ensures.0 ∙ ap (placed _ _) c.in-Notes.is)) ∙ l.invariant.goes;
-    }
-
-pub returns-in-Refused : goal.returns-in-Refused
-returns-in-Refused c =
+loop-i-preserved g c =
     let l = c.loop-i in (
-      sym (each_refused _ _ _ _ _ c.loop-i-test.true _ c.goal_of-c.ensures _ _
-          (sym c.add_one.ensures.0 ∙ ap (placed _ _) c.in-Refused.is)) ∙ l.invariant.goes,
-      tt,
+      omega arith,
+      omega (arith, subst (AtMost _) c.in_ok-q.was c.add_one.ensures.1),
+      λ t h.
+          sym (each_more _ _ _ _ _ c.loop-i-test.true _ (h _ _ c.loop-i-test.true c.to-c.ensures)
+          ∙ goes_on _ (add_one _ _ _ _) _ _ _ _ _ c.add_one.ensures.0 c.in_ok-q.was) ∙ l.invariant.2 t h,
     )
 
 pub shape_of-words : goal.shape_of-words
-shape_of-words c = c.loop-i.invariant.same
+shape_of-words g c = c.loop-i.invariant.0
 
 pub returns : goal.returns
-returns c =
+returns g c =
     let l = c.loop-i in
-    (sym (each_end _ _ _ _ _ c.loop-i-test.false) ∙ l.invariant.goes, omega arith)
+    (λ t h. sym (each_end _ _ _ _ _ c.loop-i-test.false) ∙ l.invariant.2 t h, omega (arith, rw c.random_start-low.ensures at l.auto.i-end, start_le c.args.g.columns, l.invariant.1))

@@ -1,13 +1,13 @@
-use Rattle.std.specs.Prelude.{if◌then◌else◌}
+use mathlib.Core.Path.{◌≡◌}
+use Prim.Native.Nat.{ℕ, ◌-◌, ◌≤◌, ◌<◌}
 use lib.ListN.{length}
-use Prim.Native.Nat.{◌-◌}
 use Rattle.random.specs.Play.{on}
-use Rattle.mania.specs.HitObject.{reversed, stacked}
-use Rattle.circle_notes.proofs.Loops.{goal, Each}
+use Rattle.mania.specs.HitObject.{add_each}
+use Rattle.pattern.specs.Answers.{pattern}
+use Rattle.circle_notes.specs.Answers.{circle_at, each}
 use Rattle.circle_notes.proofs.add_each.Given as goal
 
 abbrev pub invariant-loop-i : goal.invariant-loop-i
-invariant-loop-i l = Each l.g (goal l.g l.turn) (length l.initial.words) l.words l.rest l.p l.i (on (if l.turn then reversed l.g else stacked l.g) l.initial.rest)
-
-abbrev pub decreases-loop-i : goal.decreases-loop-i
-decreases-loop-i l = l.columns - l.i
+invariant-loop-i g l =
+    (length l.words ≡ length l.initial.words) × (l.p.count ≤ l.i)
+    × ((t : ℕ → ℕ) → ((i c : ℕ) → i < l.g.columns → goal.F-post g l.to i c → c ≡ t i) → on (add_each l.g t (l.g.columns - l.i) l.i (pattern (circle_at l.g.start) l.words l.p)) l.rest ≡ on (each l.g t) l.initial.rest)

@@ -1,12 +1,11 @@
 use lib.ListN.{length}
+use Prim.Native.Nat.{◌-◌}
 use Rattle.random.specs.Play.{on}
 use Rattle.mania.specs.Pattern.{empty}
 use Rattle.mania.specs.HitObject.{add_mirrored}
 use Rattle.circle_notes.proofs.Loops.{Mirroring}
 use Rattle.circle_notes.proofs.add_mirrored.Given as goal
 
-abbrev pub invariant-loop-left : goal.invariant-loop-left
-invariant-loop-left l = Mirroring l.g (length l.initial.words) l.words l.rest l.p l.at l.left (on (add_mirrored l.g l.n l.first empty) l.initial.rest)
-
-abbrev pub decreases-loop-left : goal.decreases-loop-left
-decreases-loop-left l = l.left
+abbrev pub invariant-loop : goal.invariant-loop
+invariant-loop l =
+    Mirroring l.g (length l.initial.words) l.words l.rest l.p l.at (l.n - l.counter) (on (add_mirrored l.g l.n l.first empty) l.initial.rest)

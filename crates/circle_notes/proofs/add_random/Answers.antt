@@ -1,29 +1,31 @@
 -- `circle_notes::add_random` meets its contract. The invariant is `Going`: the rest of the rule comes to what the whole comes to. Assumes nothing.
 use mathlib.Core.Path.{◌≡◌, refl, sym, ap, subst, ◌∙◌}
-use Prim.Native.Nat.{◌<◌}
+use Prim.Native.Nat.{◌+◌, ◌-◌, ◌<◌}
 use native.Mathlib.Omega.{arith}
-use lib.Bits.{bit_or}
-use Rattle.random.specs.Play.{found, on}
+use Rattle.random.specs.Play.{on}
+use Rattle.random.specs.Answers.{number}
+use Rattle.random.specs.Laws.Try.{goes_on}
 use Rattle.mania.specs.declared.Note.{Note}
 use Rattle.mania.specs.Pattern.{Pattern}
-use Rattle.mania.specs.PatternGenerator.{random_start, find_available_column}
-use Rattle.mania.specs.HitObject.{add_random, next_of}
-use Rattle.pattern.specs.Answers.{number}
+use Rattle.mania.specs.PatternGenerator.{find_available_column}
+use Rattle.mania.specs.HitObject.{add_note, add_random}
+use Rattle.pattern.specs.Answers.{pattern, AtMost}
+use Rattle.pattern.specs.Laws.Exits.{leaves_placed}
 use Rattle.pattern.specs.Laws.Searches.{start_lt, on_deck}
-use Rattle.pattern.specs.Answers.{pattern, placed, AtMost}
 use Rattle.pattern.specs.Laws.Words.{empty_is}
-use Rattle.circle_notes.proofs.Loops.{random_more, random_off, random_refused, random_end}
+use Rattle.circle_notes.proofs.Loops.{random_more, random_end}
 use Rattle.circle_notes.proofs.add_random.Goals as goal
-use Rattle.circle_notes.proofs.add_random.Goals.{After-random_start-low, In-Given}
+use Rattle.circle_notes.proofs.add_random.Goals.{After-random_start-low, In_ok-c}
 
-pub loop-left-init : goal.loop-left-init
-loop-left-init c =
+pub loop-init : goal.loop-init
+loop-init c =
     let a = c.args in
+    let e : a.n - 0 ≡ a.n = omega arith in
     record {
       same = refl;
       many = omega arith;
       fine = omega arith;
-      goes = ap (λ (p : Pattern Note). on (add_random a.g a.barred a.n a.first p) a.d) (empty_is _ _);
+      goes = rw e (ap (λ (p : Pattern Note). on (add_random a.g a.barred a.n a.first p) a.d) (empty_is _ _));
     }
 
 -- the first column of the search is on the deck
@@ -34,58 +36,47 @@ pub find_available_column-requires : goal.find_available_column-requires
 find_available_column-requires c =
     (omega arith, omega arith, low (goal.at.find_available_column-requires c).After-random_start-low, omega arith)
 
--- what the search gave, in the rule's words
-got : (c : In-Given)
-    → let l = c.loop-left in let a = c.args in
-    on (find_available_column (next_of a.g) a.g.columns l.at (random_start a.g.columns) a.g.columns (bit_or l.p.mask a.barred)) l.rest
-    ≡ found c.in-Given.c c.in-Given.next
-got c =
-    rw (← c.next_of-how.ensures, ← c.random_start-low.ensures) (sym c.find_available_column.ensures ∙ ap number c.in-Given.is)
-
-small : (c : In-Given) → c.in-Given.c < c.args.g.columns
-small c =
-    let l = c.loop-left in
-    on_deck _ _ _ _ _ _ l.invariant.fine (start_lt _ (omega arith)) (omega arith) _ _ _ (got c)
-
-pub loop-left-preserved : goal.loop-left-preserved
+pub returns-in_err-c : goal.returns-in_err-c
 unfolding pattern
-loop-left-preserved c =
-    let l = c.loop-left in
+returns-in_err-c c =
+    let x = leaves_placed _ (find_available_column _ _ _ _ _ _) _ _ _ _ _ _ _ _ c.find_available_column.ensures c.in_err-c.was c.from_residual.ensures.1 in
+    (x.0 ∙ sym (random_more _ _ _ _ _ _ (omega (arith, c.loop-test.true)) _ c.next_of-how.ensures _ c.random_start-low.ensures) ∙ c.loop.invariant.goes, x.1)
+
+small : (c : In_ok-c) → c.in_ok-c.c < c.args.g.columns
+small c =
+    on_deck _ _ _ _ _ _ c.loop.invariant.fine (rw c.random_start-low.ensures (start_lt _ (omega arith))) (omega arith) _ _ _
+    (sym c.find_available_column.ensures ∙ ap number c.in_ok-c.was)
+
+pub returns-in_err-q : goal.returns-in_err-q
+unfolding pattern
+returns-in_err-q c =
+    let x = leaves_placed _ (add_note _ _ _) _ _ _ _ _ _ _ _ c.add_note.ensures.0 c.in_err-q.was c.from_residual-in_err-q.ensures.1 in (
+      x.0
+          ∙ sym (random_more _ _ _ _ _ _ (omega (arith, c.loop-test.true)) _ c.next_of-how.ensures _ c.random_start-low.ensures
+          ∙ goes_on _ (find_available_column _ _ _ _ _ _) _ _ _ _ _ c.find_available_column.ensures c.in_ok-c.was) ∙ c.loop.invariant.goes,
+      x.1,
+    )
+
+pub loop-preserved : goal.loop-preserved
+unfolding pattern
+loop-preserved c =
+    let l = c.loop in let n = c.args.n in
+    let e : n - (l.counter + 1) ≡ n - l.counter - 1 = omega arith in
     record {
       same = omega arith;
-      many = omega (arith, subst (AtMost _) c.in-Notes.is c.add_note.ensures.1);
-      fine = small (goal.at.loop-left-preserved c).In-Given;
+      many = omega (arith, subst (AtMost _) c.in_ok-q.was c.add_note.ensures.1, c.loop-test.true);
+      fine = small (goal.at.loop-preserved c).In_ok-c;
       goes =
-          sym (random_more _ _ _ _ _ _ c.loop-left-test.true _ _ (got (goal.at.loop-left-preserved c).In-Given) _ _
-          (sym c.add_note.ensures.0 ∙ ap (placed _ _) c.in-Notes.is)) ∙ l.invariant.goes;
+          rw e
+          (sym (random_more _ _ _ _ _ _ (omega (arith, c.loop-test.true)) _ c.next_of-how.ensures _ c.random_start-low.ensures
+          ∙ goes_on _ (find_available_column _ _ _ _ _ _) _ _ _ _ _ c.find_available_column.ensures c.in_ok-c.was
+          ∙ goes_on _ (add_note _ _ _) _ _ _ _ _ c.add_note.ensures.0 c.in_ok-q.was) ∙ l.invariant.goes);
     }
 
-pub returns-in-Refused-add_note : goal.returns-in-Refused-add_note
-unfolding pattern
-returns-in-Refused-add_note c =
-    let l = c.loop-left in (
-      sym (random_off _ _ _ _ _ _ c.loop-left-test.true _ _ (got (goal.at.returns-in-Refused-add_note c).In-Given) _ _
-          (sym c.add_note.ensures.0 ∙ ap (placed _ _) c.in-Refused-add_note.is)) ∙ l.invariant.goes,
-      tt,
-    )
-
-pub shape_of-words-in-Refused : goal.shape_of-words-in-Refused
-shape_of-words-in-Refused c = c.loop-left.invariant.same
-
-pub returns-in-Refused : goal.returns-in-Refused
-unfolding pattern
-returns-in-Refused c =
-    let l = c.loop-left in (
-      sym (random_refused _ _ _ _ _ _ c.loop-left-test.true _ _
-          (rw (← c.next_of-how.ensures, ← c.random_start-low.ensures) (sym c.find_available_column.ensures ∙ ap number c.in-Refused.is)))
-          ∙ l.invariant.goes,
-      tt,
-    )
-
 pub shape_of-words : goal.shape_of-words
-shape_of-words c = c.loop-left.invariant.same
+shape_of-words c = c.loop.invariant.same
 
 pub returns : goal.returns
 returns c =
-    let l = c.loop-left in
-    (sym (random_end _ _ _ _ _ _ c.loop-left-test.false) ∙ l.invariant.goes, omega arith)
+    let l = c.loop in
+    (sym (random_end _ _ _ _ _ _ (omega (arith, c.loop-test.false))) ∙ l.invariant.goes, omega arith)

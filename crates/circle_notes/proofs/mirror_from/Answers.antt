@@ -1,17 +1,17 @@
 -- `circle_notes::mirror_from` meets its contract: a column, the pairs, the centre and the special column, one after the other. Assumes nothing.
-use mathlib.Core.Path.{◌≡◌, sym, ap, subst, ◌∙◌}
+use mathlib.Core.Path.{sym, ap, subst, ◌∙◌}
 use Prim.Native.Nat.{◌/◌, ◌<◌}
 use native.Mathlib.Omega.{arith}
-use Rattle.random.specs.Play.{found, on}
-use Rattle.random.specs.Laws.On.{found_bind, refused_bind}
+use Rattle.random.specs.Answers.{number}
+use Rattle.random.specs.Laws.Try.{goes_on}
 use Rattle.mania.specs.PatternGenerator.{get_random_column}
-use Rattle.mania.specs.HitObject.{mirror_from}
+use Rattle.mania.specs.HitObject.{add_mirrored, add_centre, mirror_from}
 use Rattle.mania.proofs.Columns.{start_small}
-use Rattle.pattern.specs.Answers.{number}
+use Rattle.pattern.specs.Answers.{AtMost}
 use Rattle.pattern.specs.Laws.Bounds.{drawn_lt}
-use Rattle.pattern.specs.Answers.{placed, AtMost}
+use Rattle.pattern.specs.Laws.Exits.{leaves_placed}
 use Rattle.circle_notes.proofs.mirror_from.Goals as goal
-use Rattle.circle_notes.proofs.mirror_from.Goals.{After-random_start-low, In-Given}
+use Rattle.circle_notes.proofs.mirror_from.Goals.{After-random_start-low}
 
 -- the first column of the search is in the left half
 low : (c : After-random_start-low) → c.random_start-low.result < c.args.g.columns / 2
@@ -20,62 +20,49 @@ low c = rw c.random_start-low.ensures (start_small _ (omega arith))
 pub get_random_column-requires : goal.get_random_column-requires
 get_random_column-requires c = (low (goal.at.get_random_column-requires c).After-random_start-low, omega arith)
 
--- what the draw gave, in the rule's words
-got : (c : In-Given)
-    → let a = c.args in
-    on (get_random_column c.random_start-low.result (a.g.columns / 2)) a.d ≡ found c.in-Given.c c.in-Given.next
-got c = sym c.get_random_column.ensures ∙ ap number c.in-Given.is
-
-small : (c : In-Given) → c.in-Given.c < c.args.g.columns / 2
-small c = drawn_lt _ _ (rw c.random_start-low.ensures (start_small _ (omega arith))) _ _ _ (got c)
+pub returns-in_err-c : goal.returns-in_err-c
+unfolding mirror_from
+returns-in_err-c c =
+    rw (← c.random_start-low.ensures) (leaves_placed _ (get_random_column _ _) _ _ _ _ _ _ _ _ c.get_random_column.ensures c.in_err-c.was c.from_residual.ensures.1)
 
 pub add_mirrored-requires : goal.add_mirrored-requires
-add_mirrored-requires c = omega (arith, small (goal.at.add_mirrored-requires c).In-Given)
+add_mirrored-requires c =
+    let small : c.in_ok-c.c < c.args.g.columns / 2 = drawn_lt _ _ (low (goal.at.add_mirrored-requires c).After-random_start-low) _ _ _ (sym c.get_random_column.ensures ∙ ap number c.in_ok-c.was) in
+    omega (arith, small)
+
+pub returns-in_err-p : goal.returns-in_err-p
+unfolding mirror_from
+returns-in_err-p c =
+    let x = leaves_placed _ (add_mirrored _ _ _ _) _ _ _ _ _ _ _ _ c.add_mirrored.ensures.0 c.in_err-p.was c.from_residual-in_err-p.ensures.1 in
+    rw (← c.random_start-low.ensures) (x.0 ∙ sym (goes_on _ (get_random_column _ _) _ _ _ _ _ c.get_random_column.ensures c.in_ok-c.was), x.1)
 
 pub add_centre-requires : goal.add_centre-requires
-add_centre-requires c = omega (arith, subst (AtMost _) c.in-Notes.is c.add_mirrored.ensures.1)
+add_centre-requires c = omega (arith, subst (AtMost _) c.in_ok-p.was c.add_mirrored.ensures.1)
+
+pub returns-in_err-q : goal.returns-in_err-q
+unfolding mirror_from
+returns-in_err-q c =
+    let x = leaves_placed _ (add_centre _ _ _) _ _ _ _ _ _ _ _ c.add_centre.ensures.0 c.in_err-q.was c.from_residual-in_err-q.ensures.1 in
+    rw (← c.random_start-low.ensures) (
+      x.0
+          ∙ sym
+          (goes_on _ (get_random_column _ _) _ _ _ _ _ c.get_random_column.ensures c.in_ok-c.was ∙ goes_on _ (add_mirrored _ _ _ _) _ _ _ _ _ c.add_mirrored.ensures.0 c.in_ok-p.was),
+      x.1,
+    )
 
 pub add_special-requires : goal.add_special-requires
 add_special-requires c =
     let r = c.requires in
-    omega (arith, subst (AtMost _) c.in-Notes-add_centre.is c.add_centre.ensures.1, r.1, r.3, c.add_mirrored.auto.words, c.add_centre.auto.words)
+    omega (arith, subst (AtMost _) c.in_ok-q.was c.add_centre.ensures.1, r.1, r.3, c.add_mirrored.auto.words, c.add_centre.auto.words)
 
-pub returns-in-Notes-add_centre : goal.returns-in-Notes-add_centre
+pub returns : goal.returns
 unfolding mirror_from
-returns-in-Notes-add_centre c =
+returns c =
     let k = c.add_special.ensures in (
       k.0
           ∙ sym
           (rw (← c.random_start-low.ensures)
-          (found_bind _ _ _ _ _ (got (goal.at.returns-in-Notes-add_centre c).In-Given) ∙ found_bind _ _ _ _ _ (sym c.add_mirrored.ensures.0 ∙ ap (placed _ _) c.in-Notes.is)
-          ∙ found_bind _ _ _ _ _ (sym c.add_centre.ensures.0 ∙ ap (placed _ _) c.in-Notes-add_centre.is))),
+          (goes_on _ (get_random_column _ _) _ _ _ _ _ c.get_random_column.ensures c.in_ok-c.was ∙ goes_on _ (add_mirrored _ _ _ _) _ _ _ _ _ c.add_mirrored.ensures.0 c.in_ok-p.was
+          ∙ goes_on _ (add_centre _ _ _) _ _ _ _ _ c.add_centre.ensures.0 c.in_ok-q.was)),
       k.1,
     )
-
-pub returns-in-Refused-add_centre : goal.returns-in-Refused-add_centre
-unfolding mirror_from
-returns-in-Refused-add_centre c = (
-  sym
-      (rw (← c.random_start-low.ensures)
-      (found_bind _ _ _ _ _ (got (goal.at.returns-in-Refused-add_centre c).In-Given) ∙ found_bind _ _ _ _ _ (sym c.add_mirrored.ensures.0 ∙ ap (placed _ _) c.in-Notes.is)
-      ∙ refused_bind _ _ _ _ _ (sym c.add_centre.ensures.0 ∙ ap (placed _ _) c.in-Refused-add_centre.is))),
-  tt,
-)
-
-pub returns-in-Refused-add_mirrored : goal.returns-in-Refused-add_mirrored
-unfolding mirror_from
-returns-in-Refused-add_mirrored c = (
-  sym
-      (rw (← c.random_start-low.ensures)
-      (found_bind _ _ _ _ _ (got (goal.at.returns-in-Refused-add_mirrored c).In-Given) ∙ refused_bind _ _ _ _ _ (sym c.add_mirrored.ensures.0 ∙ ap (placed _ _) c.in-Refused-add_mirrored.is))),
-  tt,
-)
-
-pub returns-in-Refused : goal.returns-in-Refused
-unfolding mirror_from
-returns-in-Refused c = (
-  sym
-      (rw (← c.random_start-low.ensures)
-      (refused_bind _ _ _ _ _ (sym c.get_random_column.ensures ∙ ap number c.in-Refused.is))),
-  tt,
-)

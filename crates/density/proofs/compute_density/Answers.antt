@@ -4,4 +4,5 @@ use Rattle.density.proofs.Queue.{computed}
 use Rattle.density.proofs.compute_density.Goals as goal
 
 pub returns : goal.returns
-returns c = (c.push-p.ensures.0, computed c.push-p.result (queued c.args.d) c.args.time c.density_of-value.result c.push-p.ensures.1 c.density_of-value.ensures)
+unfolding queued
+returns c = computed c.push-p.result (queued c.args.d) c.args.time c.density_of-value.result c.push-p.ensures c.density_of-value.ensures

@@ -6,7 +6,7 @@ use borrow.Author.Rules.{rules}
 use Rattle.density.proofs.density_of.Goals as goal
 
 pub returns-then-len-lt2 : goal.returns-then-len-lt2
-returns-then-len-lt2 c = let h : length c.args.d.times ≡ 7 = search rules in few_times c.args.d.times c.args.d.len c.args.d.value h c.requires c.if-len-lt2.true
+returns-then-len-lt2 c = let h : length c.args.d.times ≡ 7 = search rules in few_times c.args.d.times c.args.d.len c.args.d.value h c.args.d.held c.if-len-lt2.true
 
 pub returns : goal.returns
-returns c = let h : length c.args.d.times ≡ 7 = search rules in density_is c.args.d.times c.args.d.len c.args.d.value h c.requires c.if-len-lt2.false
+returns c = let h : length c.args.d.times ≡ 7 = search rules in density_is c.args.d.times c.args.d.len c.args.d.value h c.args.d.held c.if-len-lt2.false

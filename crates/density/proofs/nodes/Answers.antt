@@ -17,10 +17,7 @@ loop-n-init c =
     let l = c.args.length in
     let count = c.args.count in
     let d = queued c.args.d in
-    (omega arith, c.requires, ap (λ (n : ℕ). nodes o l (count - n) n d) c.last_seven-n.ensures ∙ nodes_last o l count d)
-
-pub compute_density-r-requires : goal.compute_density-r-requires
-compute_density-r-requires c = c.loop-n.invariant.1
+    (omega arith, ap (λ (n : ℕ). nodes o l (count - n) n d) c.saturating_sub-n.ensures ∙ nodes_last o l count d)
 
 pub loop-n-preserved : goal.loop-n-preserved
 loop-n-preserved c =
@@ -29,15 +26,14 @@ loop-n-preserved c =
     let count = c.args.count in
     let at = c.loop-n in (
       omega arith,
-      c.compute_density-r.ensures.0,
       ap (λ (d : Queue.Density). nodes o l (count - (at.n + 1)) (at.n + 1) d)
-          (c.compute_density-r.ensures.1 ∙ ap (λ (t : Float). compute_density t (queued at.r)) c.node_time.ensures)
+          (c.compute_density-r.ensures ∙ ap (λ (t : Float). compute_density t (queued at.r)) c.node_time.ensures)
           ∙ node_more o l count at.n (queued at.r) c.loop-n-test.true
-          ∙ at.invariant.2,
+          ∙ at.invariant.1,
     )
 
 pub returns : goal.returns
 returns c =
     let start = c.args in
     let at = c.loop-n in
-    (at.invariant.1, sym (nodes_done start.o start.length start.count at.n (queued at.r) c.loop-n-test.false) ∙ at.invariant.2)
+    sym (nodes_done start.o start.length start.count at.n (queued at.r) c.loop-n-test.false) ∙ at.invariant.1

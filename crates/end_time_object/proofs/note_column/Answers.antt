@@ -4,10 +4,10 @@ use Rattle.random.specs.Play.{play}
 use Rattle.mania.specs.EndTimeObject.{note_column}
 use Rattle.end_time_object.proofs.note_column.Goals as goal
 
-pub returns-then-special : goal.returns-then-special
+pub returns-then-columns-finish : goal.returns-then-columns-finish
 unfolding note_column round of_bits play
-returns-then-special c = rw (← c.has_flag-finish.ensures, c.if-special.true)
+returns-then-columns-finish c = rw (← c.has_flag-finish.ensures, c.if-columns-finish.true)
 
 pub returns : goal.returns
 unfolding note_column round of_bits
-returns c = rw (← c.has_flag-finish.ensures, c.if-special.false) c.end_column.ensures
+returns c = rw (← c.has_flag-finish.ensures, c.if-columns-finish.false) c.end_column.ensures

@@ -6,4 +6,4 @@ use Rattle.entry.proofs.object_fits.Goals as goal
 pub returns : goal.returns
 unfolding object_fits round of_bits
 returns c =
-    rw (c.position_fits-a.ensures, c.in_range-b.ensures, c.kind_fits-c.ensures, c.position_fits-d.ensures, c.is_finite-e.ensures, c.is_finite-g.ensures)
+    rw (c.position_fits.ensures, c.in_range-start.ensures, c.kind_fits.ensures, c.position_fits-2.ensures, c.is_finite.ensures, c.is_finite-2.ensures)

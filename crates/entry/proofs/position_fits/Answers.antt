@@ -5,4 +5,4 @@ use Rattle.entry.proofs.position_fits.Goals as goal
 
 pub returns : goal.returns
 unfolding position_fits neg round of_bits
-returns c = rw (c.in_range_f32-a.ensures, c.in_range_f32-b.ensures)
+returns c = rw (c.in_range-a.ensures, c.in_range-b.ensures)

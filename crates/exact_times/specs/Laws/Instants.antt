@@ -1,6 +1,6 @@
 -- The instant of a bit pattern, and what covers, distances and tests on patterns say of it.
 -- Assumes nothing.
-use Rattle.std.specs.Prelude.{◌≡◌, Bool, cond, not, ◌&&◌, ◌||◌, T, ℤ, negsuc, neg_ℤ, nat_abs, Float}
+use Rattle.std.specs.Prelude.{◌≡◌, Bool, cond, not, ◌&&◌, ◌||◌, T, ℤ, negsuc, neg_ℤ, nat_abs, Float, Some, None}
 use Rattle.std.proofs.Math.Path.{refl, sym}
 use Rattle.std.proofs.Common.{ap, ◌∙◌, mul-div_cancel, pow_pos}
 use Rattle.std.proofs.Math.Bool.{true, false, and-false}
@@ -23,7 +23,6 @@ use Rattle.chart.specs.Time.{time}
 use Rattle.chart.specs.Tests.{never}
 use Rattle.floats.specs.Format.{infinity}
 use Rattle.chart.specs.Laws.Times.{ticks_mono, ticks_size, ticks_zero, ticks_leb, le_or_lt, time_to_bits}
-use Rattle.exact_times.specs.declared.moments.Moment.TheVariants.{At, Before}
 use Rattle.exact_times.specs.Instants.{instant, covers_at, inside_at, distance, Tells, FirstAt, FirstAfter}
 use Rattle.exact_times.specs.Laws.Orders.{same_ltb, not_ltb}
 
@@ -42,11 +41,11 @@ time_instant b h = signed_ticks (time b) false (size_of binary64 b) (small_value
 finite_below : (b : ℕ) → finite (time b) ≡ true → b % 2 ^ 63 < infinity
 finite_below b h = ⊎_elim (λ (l : infinity ≤ b % 2 ^ 63). absurd (never h (special_bits binary64 b l))) (λ l. l) (le_or_lt infinity (b % 2 ^ 63))
 
-pub plus_tells : (b : ℕ) → finite (time b) ≡ true → b < 2 ^ 63 → Tells (time b) (At b)
+pub plus_tells : (b : ℕ) → finite (time b) ≡ true → b < 2 ^ 63 → Tells (time b) (Some b)
 unfolding Tells
 plus_tells b h l = let small : b < infinity = omega (arith, finite_below b h) in (small, time_instant b small)
 
-pub zero_tells : Tells (time (2 ^ 63)) (At 0)
+pub zero_tells : Tells (time (2 ^ 63)) (Some 0)
 unfolding Tells of_bits
 zero_tells = (omega arith, signed_ticks (time (2 ^ 63)) true 0 (value binary64 (2 ^ 63) tt) ∙ ap pos (sym ticks_zero))
 
@@ -54,7 +53,7 @@ negative : (a : ℕ) → 0 < a → lt_z (neg_ℤ (pos a)) (pos 0) ≡ true
 negative zero h = absurd (omega arith)
 negative (suc a) h = refl
 
-pub minus_tells : (b : ℕ) → finite (time b) ≡ true → 2 ^ 63 < b → b < 2 ^ 64 → Tells (time b) Before
+pub minus_tells : (b : ℕ) → finite (time b) ≡ true → 2 ^ 63 < b → b < 2 ^ 64 → Tells (time b) None
 unfolding Tells
 minus_tells b h l k =
     let digits : b % 2 ^ 52 ≡ b % 2 ^ 63 % 2 ^ 52 = omega arith in
@@ -157,18 +156,18 @@ module _ (x : Float) (fit : T (fits binary64 x)) (ok : finite x ≡ true) (s : �
 -- ---- the first pattern at or after an instant, and the first one after it
 
 module _ (t : Float) where
-  pub at_first : (b : ℕ) → Tells t (At b) → FirstAt t b
+  pub at_first : (b : ℕ) → Tells t (Some b) → FirstAt t b
   unfolding Tells FirstAt
   at_first b h s l = rw h.1 (sym (ticks_leb b s h.0 l))
 
-  pub at_after : (b : ℕ) → Tells t (At b) → FirstAfter t (b + 1)
+  pub at_after : (b : ℕ) → Tells t (Some b) → FirstAfter t (b + 1)
   unfolding Tells FirstAfter
   at_after b h s l = rw h.1 (same_test ∙ sym (ticks_leb s b l h.0))
     where
       same_test : ltb s (b + 1) ≡ leb s b
       same_test = ⊎_elim (λ (k : s ≤ b). lt-ltb s (b + 1) (omega arith) ∙ sym (le-leb s b k)) (λ (k : b < s). le-ltb s (b + 1) (omega arith) ∙ sym (lt-leb s b k)) (le_or_lt s b)
 
-  pub before_first : Tells t Before → FirstAt t 0
+  pub before_first : Tells t None → FirstAt t 0
   unfolding Tells FirstAt
   before_first h s l = le-leb 0 s (omega arith) ∙ go (instant t) h
     where
@@ -176,7 +175,7 @@ module _ (t : Float) where
       go (pos n) h = let k : n < 0 = ltb-true n 0 h in absurd (omega arith)
       go (negsuc n) h = refl
 
-  pub before_after : Tells t Before → FirstAfter t 0
+  pub before_after : Tells t None → FirstAfter t 0
   unfolding Tells FirstAfter
   before_after h s l = le-ltb s 0 (omega arith) ∙ go (instant t) h
     where

@@ -10,7 +10,7 @@ use Rattle.floats.specs.Ticks.{ticks}
 use Rattle.chart.specs.Time.{time}
 use Rattle.floats.specs.Format.{infinity}
 use Rattle.chart.specs.Laws.Times.{ticks_size, ticks_leb, le_or_lt}
-use Rattle.exact_times.specs.declared.Order.TheVariants.{Less, Greater}
+use Rattle.std.specs.declared.cmp.Ordering.TheVariants.{Less, Greater}
 use Rattle.exact_times.specs.Compare.{order_of}
 use Rattle.exact_times.specs.Digits.{digits_of, power_of, Number}
 use Rattle.exact_times.specs.Laws.Orders.{less, greater, scale_add}

@@ -9,11 +9,12 @@ use Rattle.floats.proofs.in_range.Goals as goal
 
 pub returns-then-x : goal.returns-then-x
 unfolding in_range
-returns-then-x c = ap (in_range _ _) (sym (differs_from_itself c.args.x (subst T (sym c.if-x.true) tt)))
+returns-then-x g c = ap (in_range _ _) (sym (differs_from_itself c.wide-x.result (subst T (sym c.if-x.true) tt)) ∙ c.wide-x.ensures)
 
 pub float_to_bits-x : goal.float_to_bits-x
-float_to_bits-x c = no_nan c.args.x c.if-x.false
+float_to_bits-x g c = no_nan c.wide-x.result c.if-x.false
 
 pub returns : goal.returns
-returns c =
-    c.within_f64.ensures ∙ ap (in_range _ _) (of_bits-to_bits binary64 c.args.x (subst T (sym c.well_formed.0.1) tt))
+returns g c =
+    rw (← c.wide-x.ensures, ← c.wide.ensures, ← c.wide-2.ensures)
+    (c.within.ensures ∙ ap (in_range _ _) (of_bits-to_bits binary64 c.wide-x.result (subst T (sym c.wide-x.type_inv) tt)))

@@ -10,15 +10,17 @@ use Rattle.floats.proofs.to_whole.Goals as goal
 
 pub returns-then-x : goal.returns-then-x
 unfolding whole
-returns-then-x c = ap (λ (z : Float). whole c.args.way z) (sym (differs_from_itself c.args.x (subst T (sym c.if-x.true) tt)))
+returns-then-x g c = ap (λ (z : Float). whole c.args.way z) (sym (differs_from_itself c.wide-x.result (subst T (sym c.if-x.true) tt)) ∙ c.wide-x.ensures)
 
 pub float_to_bits-bits : goal.float_to_bits-bits
-float_to_bits-bits c = no_nan c.args.x c.if-x.false
+float_to_bits-bits g c = no_nan c.wide-x.result c.if-x.false
 
 pub returns : goal.returns
-returns c =
+returns g c =
     let a = c.args in
+    let x = c.wide-x.result in
     to_z-of_z w32 c.with_sign.result (search rules)
     ∙ c.with_sign.ensures
-    ∙ ap (λ (n : ℕ). signed (leb (2 ^ 63) (to_bits binary64 a.x)) n) c.size_at-size.ensures
-    ∙ to_whole a.way a.x (subst T (sym c.well_formed.0.1) tt) (no_nan a.x c.if-x.false)
+    ∙ ap (λ (n : ℕ). signed (leb (2 ^ 63) (to_bits binary64 x)) n) c.size_at-size.ensures
+    ∙ to_whole a.way x (subst T (sym c.wide-x.type_inv) tt) (no_nan x c.if-x.false)
+    ∙ ap (whole a.way) c.wide-x.ensures

@@ -4,4 +4,4 @@ use Rattle.hit_object.proofs.climbs.Goals as goal
 
 pub returns : goal.returns
 unfolding alone
-returns c = rw (c.has_type-has.ensures, c.column_count.ensures.0)
+returns c = rw (c.has_type.ensures, c.column_count.ensures.0)

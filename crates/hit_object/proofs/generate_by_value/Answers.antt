@@ -1,24 +1,20 @@
 -- `hit_object::generate_by_value` meets its contract: the pattern, and then the stair. Assumes nothing.
-use mathlib.Core.Path.{sym, ap, subst, ◌∙◌}
-use native.Mathlib.Omega.{arith}
+use mathlib.Core.Path.{sym, subst, ◌∙◌}
 use Rattle.random.specs.Play.{play}
-use Rattle.random.specs.Laws.On.{found_bind, refused_bind}
-use Rattle.mania.specs.HitObject.{generate}
-use Rattle.pattern.specs.Answers.{pattern, placed, AtMost}
+use Rattle.random.specs.Laws.Try.{goes_on}
+use Rattle.mania.specs.HitObject.{generate_core, generate}
+use Rattle.pattern.specs.Answers.{pattern, AtMost}
+use Rattle.pattern.specs.Laws.Exits.{leaves_made}
 use Rattle.hit_object.proofs.generate_by_value.Goals as goal
 
-pub stair_after-s-requires : goal.stair_after-s-requires
-stair_after-s-requires c = omega (arith, subst (AtMost _) c.in-Notes.is c.generate_core.ensures.1)
-
-pub returns-in-Notes : goal.returns-in-Notes
-unfolding generate pattern play
-returns-in-Notes c =
-    record {
-      says = sym (found_bind _ _ _ _ _ (sym c.generate_core.ensures.0 ∙ ap (placed _ _) c.in-Notes.is) ∙ rw (← c.stair_after-s.ensures));
-      few = subst (AtMost _) c.in-Notes.is c.generate_core.ensures.1;
-    }
-
-pub returns-in-Refused : goal.returns-in-Refused
+pub returns-in_err-pattern : goal.returns-in_err-pattern
 unfolding generate
-returns-in-Refused c =
-    record { says = sym (refused_bind _ _ _ _ _ (sym c.generate_core.ensures.0 ∙ ap (placed _ _) c.in-Refused.is)); few = omega arith }
+returns-in_err-pattern c = leaves_made _ (generate_core _) _ _ _ _ _ _ _ _ c.generate_core.ensures.0 c.in_err-pattern.was c.from_residual.ensures.1
+
+pub returns : goal.returns
+unfolding generate pattern play
+returns c =
+    record {
+      says = sym (goes_on _ (generate_core _) _ _ _ _ _ c.generate_core.ensures.0 c.in_ok-pattern.was ∙ rw (← c.stair_after-stair.ensures));
+      few = subst (AtMost _) c.in_ok-pattern.was c.generate_core.ensures.1;
+    }

@@ -1,17 +1,16 @@
--- `hit_object::stair_after` meets its contract. The invariant: the notes that are left come to what all come to. Assumes nothing.
-use mathlib.Core.Path.{refl, sym, ◌∙◌}
-use native.Mathlib.Omega.{arith}
-use Rattle.hit_object.proofs.Stairs.{after_more, after_end}
+-- `hit_object::stair_after` meets its contract: so far, the stair after the notes so far. Assumes nothing.
+use Rattle.std.proofs.Common.{◌≡◌, map, subst, refl, rules}
+use Rattle.std.proofs.lemmas.Fn.{fold_over, slice_gives, fronts}
+use Rattle.mania.specs.HitObject.{stair_after}
+use Rattle.circle_notes.specs.Answers.{circle_at}
+use Rattle.hit_object.proofs.Stairs.{after_more}
 use Rattle.hit_object.proofs.stair_after.Goals as goal
 
-pub loop-i-init : goal.loop-i-init
-loop-i-init c = (omega arith, refl)
-
-pub loop-i-preserved : goal.loop-i-preserved
-loop-i-preserved c =
-    let l = c.loop-i in
-    let turned-is = rw c.column_of.ensures at c.turned-s.ensures in
-    (omega arith, sym (after_more _ _ _ _ _ c.loop-i-test.true (omega arith) _ _ turned-is) ∙ l.invariant.1)
-
 pub returns : goal.returns
-returns c = sym (sym c.loop-i.invariant.1 ∙ after_end _ _ _ _ _ c.loop-i-test.false)
+unfolding stair_after
+returns c =
+    let g = c.args.g in
+    subst (λ l. c.fold.result ≡ stair_after g g.stair (map (circle_at g.start) l)) c.iter.ensures.rest
+    (fold_over fronts (λ y. y.now) _ (λ ys s. s ≡ stair_after g g.stair (map (circle_at g.start) ys)) _
+    (λ ys s x t f' j k. let more = after_more g ys x.now g.stair in search rules)
+    _ _ _ _ (slice_gives c.iter.result) refl c.fold.ensures.ran)

@@ -3,10 +3,10 @@ use borrow.Author.Tests.{eq-eqb, ne_eqb}
 use Rattle.mania.specs.HitObject.{stair_column}
 use Rattle.hit_object.proofs.stair_column.Goals as goal
 
-pub returns-then-last-columns : goal.returns-then-last-columns
+pub returns-then-g : goal.returns-then-g
 unfolding stair_column
-returns-then-last-columns c = rw (eq-eqb _ _ c.if-last-columns.true) c.random_start.ensures
+returns-then-g c = rw (eq-eqb _ _ c.if-g.true) c.random_start.ensures
 
-pub returns : goal.returns
+pub returns-else-g : goal.returns-else-g
 unfolding stair_column
-returns c = rw (ne_eqb _ _ c.if-last-columns.false)
+returns-else-g c = rw (ne_eqb _ _ c.if-g.false)

@@ -2,17 +2,17 @@
 use Rattle.mania.specs.HitObject.{turned}
 use Rattle.hit_object.proofs.turned.Goals as goal
 
-pub returns-then-at_start : goal.returns-then-at_start
+pub returns-then-down-c : goal.returns-then-down-c
 unfolding turned
-returns-then-at_start c =
-    rw (← c.random_start-low.ensures, ← c.has_type-down.ensures, c.if-at_start.true)
+returns-then-down-c c =
+    rw (← c.random_start-low.ensures, ← c.has_type-down.ensures, c.if-down-c.true)
 
-pub returns-then-at_end : goal.returns-then-at_end
+pub returns-then-up-c : goal.returns-then-up-c
 unfolding turned
-returns-then-at_end c =
-    rw (← c.random_start-low.ensures, ← c.has_type-down.ensures, ← c.has_type-up.ensures, c.if-at_start.false, c.if-at_end.true)
+returns-then-up-c c =
+    rw (← c.random_start-low.ensures, ← c.has_type-down.ensures, ← c.has_type-up.ensures, c.if-down-c.false, c.if-up-c.true)
 
-pub returns : goal.returns
+pub returns-else-up-c : goal.returns-else-up-c
 unfolding turned
-returns c =
-    rw (← c.random_start-low.ensures, ← c.has_type-down.ensures, ← c.has_type-up.ensures, c.if-at_start.false, c.if-at_end.false)
+returns-else-up-c c =
+    rw (← c.random_start-low.ensures, ← c.has_type-down.ensures, ← c.has_type-up.ensures, c.if-down-c.false, c.if-up-c.false)

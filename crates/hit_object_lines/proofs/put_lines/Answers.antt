@@ -1,5 +1,5 @@
--- `hit_object_lines::put_lines` meets its contract. The invariant: the lines of the first i notes are stored. The measure is the number of notes left. Assumes nothing.
-use mathlib.Core.Path.{◌≡◌, refl, sym, ◌∙◌}
+-- `hit_object_lines::put_lines` meets its contract. The invariant: the lines of the first i notes are stored. Assumes nothing.
+use mathlib.Core.Path.{◌≡◌, sym, ◌∙◌}
 use Prim.Native.Nat.{◌+◌, ◌≤◌, ◌<◌}
 use native.Mathlib.Omega.{arith}
 use lib.ListN.{length, get_or, take}
@@ -16,7 +16,7 @@ pub loop-i-init : goal.loop-i-init
 loop-i-init c =
     let a = c.args in
     let none = lines_none a.columns (notes_in a.chart.now) in
-    (omega arith, (refl, wrote_first _ (rw none (sym (splice_none a.s.now 0 (omega arith)))) (rw none)))
+    wrote_first _ (rw none (sym (splice_none a.s.now 0 (omega arith)))) (rw none)
 
 pub note_of-n-requires : goal.note_of-n-requires
 note_of-n-requires c = omega (arith, c.requires.notes.size)
@@ -32,7 +32,7 @@ put_line-at-requires c =
         stands = rw note (standing_at c.args.columns 0 ns c.requires.notes.ok l.i blank below);
         whole = rw note (whole_at ns c.requires.room.0 l.i blank below);
       },
-      rw note (omega (arith, l.invariant.1.0, l.invariant.1.1.next, c.requires.room.1, lines_split c.args.columns ns l.i, lines_next c.args.columns ns l.i below)),
+      rw note (omega (arith, c.loop-i.auto.s, l.invariant.next, c.requires.room.1, lines_split c.args.columns ns l.i, lines_next c.args.columns ns l.i below)),
     )
 
 pub loop-i-preserved : goal.loop-i-preserved
@@ -42,14 +42,14 @@ loop-i-preserved c =
     let ns = notes_in c.args.chart.now in
     let below : l.i < length ns = omega (arith, c.requires.notes.size) in
     let fits : l.at + length (line_text (line_of c.args.columns (get_or ns l.i blank))) ≤ length c.args.s.now =
-    omega (arith, l.invariant.1.1.next, c.requires.room.1, lines_split c.args.columns ns l.i, lines_next c.args.columns ns l.i below) in
-    let line = wrote_next (line_text (line_of c.args.columns (get_or ns l.i blank))) l.invariant.1.1 (c.put_line-at.ensures.s_after ∙ rw note) (c.put_line-at.ensures.value ∙ rw note) (rw (c.put_line-at.ensures.value, note) fits) in
-    (omega arith, (c.put_line-at.auto.s ∙ l.invariant.1.0, rw (lines_more c.args.columns ns l.i below) line))
+    omega (arith, l.invariant.next, c.requires.room.1, lines_split c.args.columns ns l.i, lines_next c.args.columns ns l.i below) in
+    let line = wrote_next (line_text (line_of c.args.columns (get_or ns l.i blank))) l.invariant (c.put_line-at.ensures.s_after ∙ rw note) (c.put_line-at.ensures.value ∙ rw note) (rw (c.put_line-at.ensures.value, note) fits) in
+    rw (lines_more c.args.columns ns l.i below) line
 
 pub returns : goal.returns
 returns c =
     let l = c.loop-i in
     let ns = notes_in c.args.chart.now in
     let all : take l.i ns ≡ ns = take_all l.i ns (omega (arith, c.requires.notes.size)) in
-    let lines = rw all at l.invariant.1.1 in
+    let lines = rw all at l.invariant in
     lines.bytes

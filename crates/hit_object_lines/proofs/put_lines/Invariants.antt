@@ -1,13 +1,8 @@
-use mathlib.Core.Path.{◌≡◌}
-use Prim.Native.Nat.{◌-◌, ◌≤◌}
-use lib.ListN.{length, take}
+use lib.ListN.{take}
 use Rattle.chart.specs.Chart.{notes_in}
 use Rattle.text.specs.Laws.{Wrote}
 use Rattle.hit_object_lines.specs.Lines.{chart_lines}
 use Rattle.hit_object_lines.proofs.put_lines.Given as goal
 
 abbrev pub invariant-loop-i : goal.invariant-loop-i
-invariant-loop-i l = (l.i ≤ l.count) × ((length l.s ≡ length l.initial.s) × Wrote l.initial.s 0 (chart_lines l.columns (take l.i (notes_in l.chart))) l.s l.at)
-
-abbrev pub decreases-loop-i : goal.decreases-loop-i
-decreases-loop-i l = l.count - l.i
+invariant-loop-i l = Wrote l.initial.s 0 (chart_lines l.columns (take l.i (notes_in l.chart))) l.s l.at

@@ -1,4 +1,4 @@
--- `hit_object_lines::text_size` meets its contract. The invariant: the notes before the i-th are whole, and their lines have `size` bytes. The measure is the number of notes left. Assumes nothing.
+-- `hit_object_lines::text_size` meets its contract. The invariant: the notes before the i-th are whole, and their lines have `size` bytes. Assumes nothing.
 use mathlib.Core.Path.{◌≡◌, refl, sym, ◌∙◌}
 use Prim.Native.Nat.{◌≤◌, ◌<◌}
 use native.Mathlib.Omega.{arith}
@@ -11,7 +11,7 @@ use Rattle.hit_object_lines.specs.Laws.Chart.{whole_next, whole_fails, whole_all
 use Rattle.hit_object_lines.proofs.text_size.Goals as goal
 
 pub loop-i-init : goal.loop-i-init
-loop-i-init c = (omega arith, (omega arith, (refl, omega arith)))
+loop-i-init c = record { most = omega arith; whole = refl; bytes = omega arith }
 
 pub note_of-n-requires : goal.note_of-n-requires
 note_of-n-requires c = omega (arith, c.requires.size)
@@ -30,7 +30,7 @@ returns-then-not-is_whole c =
     let ns = notes_in c.args.chart.now in
     let below : l.i < length ns = omega (arith, c.requires.size) in
     let bad = rw c.note_of-n.ensures at (sym c.is_whole.ensures ∙ c.if-not-is_whole.true) in
-    rw (l.invariant.1.1.0 ∙ whole_fails ns l.i below bad)
+    rw (l.invariant.whole ∙ whole_fails ns l.i below bad)
 
 pub line_size-size-requires : goal.line_size-size-requires
 line_size-size-requires c =
@@ -53,16 +53,12 @@ loop-i-preserved c =
     let below : l.i < length ns = omega (arith, c.requires.size) in
     let note = c.note_of-n.ensures in
     let good = rw note at (sym c.is_whole.ensures ∙ c.if-not-is_whole.false) in
-    let size = rw note at c.line_size-size.ensures.0 in (
-      omega arith,
-      (
-        omega (arith, c.line_size-size.ensures.1),
-        (
-          l.invariant.1.1.0 ∙ whole_next ns l.i below good,
-          omega (arith, l.invariant.1.1.1, lines_next c.args.columns ns l.i below, size),
-        ),
-      ),
-    )
+    let size = rw note at c.line_size-size.ensures.0 in
+    record {
+      most = omega (arith, c.line_size-size.ensures.1);
+      whole = l.invariant.whole ∙ whole_next ns l.i below good;
+      bytes = omega (arith, l.invariant.bytes, lines_next c.args.columns ns l.i below, size);
+    }
 
 pub returns : goal.returns
 unfolding size_of
@@ -70,5 +66,5 @@ returns c =
     let l = c.loop-i in
     let ns = notes_in c.args.chart.now in
     let done : length ns ≤ l.i = omega (arith, c.requires.size) in
-    let size : length (chart_lines c.args.columns ns) ≡ l.size = l.invariant.1.1.1 ∙ rw (lines_all c.args.columns ns l.i done) (omega arith) in
-    rw (l.invariant.1.1.0 ∙ whole_all c.args.columns ns l.i done, size)
+    let size : length (chart_lines c.args.columns ns) ≡ l.size = l.invariant.bytes ∙ rw (lines_all c.args.columns ns l.i done) (omega arith) in
+    rw (l.invariant.whole ∙ whole_all c.args.columns ns l.i done, size)

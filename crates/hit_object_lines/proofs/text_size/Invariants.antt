@@ -1,5 +1,5 @@
 use mathlib.Core.Path.{◌≡◌}
-use Prim.Native.Nat.{◌+◌, ◌-◌, ◌*◌, ◌≤◌}
+use Prim.Native.Nat.{◌+◌, ◌*◌, ◌≤◌}
 use lib.ListN.{length, drop}
 use Rattle.chart.specs.Chart.{notes_in}
 use Rattle.hit_object_lines.specs.Lines.{chart_lines, all_whole}
@@ -7,8 +7,8 @@ use Rattle.hit_object_lines.proofs.text_size.Given as goal
 
 abbrev pub invariant-loop-i : goal.invariant-loop-i
 invariant-loop-i l =
-    (l.i ≤ l.count) × ((l.size ≤ 52 * l.i) × ((all_whole (notes_in l.chart) ≡ all_whole (drop l.i (notes_in l.chart)))
-    × (length (chart_lines l.columns (notes_in l.chart)) ≡ l.size + length (chart_lines l.columns (drop l.i (notes_in l.chart))))))
-
-abbrev pub decreases-loop-i : goal.decreases-loop-i
-decreases-loop-i l = l.count - l.i
+    record {
+      most : l.size ≤ 52 * l.i;
+      whole : all_whole (notes_in l.chart) ≡ all_whole (drop l.i (notes_in l.chart));
+      bytes : length (chart_lines l.columns (notes_in l.chart)) ≡ l.size + length (chart_lines l.columns (drop l.i (notes_in l.chart)));
+    }

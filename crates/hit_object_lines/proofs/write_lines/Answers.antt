@@ -1,28 +1,33 @@
 -- `hit_object_lines::write_lines` meets its contract. Assumes nothing.
-use mathlib.Core.Path.{refl, sym, ap, ◌∙◌}
+use mathlib.Core.Path.{refl}
 use native.Mathlib.Omega.{arith}
-use Rattle.chart.specs.Chart.{meaning}
+use Rattle.std.proofs.lemmas.Result.{err_from_is_err_and}
+use Rattle.chart.specs.Chart.{reading}
+use Rattle.chart.specs.Laws.Reader.{refused_broken}
 use Rattle.hit_object_lines.specs.Laws.Chart.{read_notes_law, read_refused}
 use Rattle.hit_object_lines.proofs.write_lines.Goals as goal
 
-pub overflow_cast-columns : goal.overflow_cast-columns
-overflow_cast-columns c =
-    let n = c.in-Chart in
-    let is = read_notes_law c.args.chart.now c.args.text.now n.version n.columns n.notes n.draws (sym (ap meaning c.in-Chart.is) ∙ c.read.ensures) in
+pub returns-in_err-header : goal.returns-in_err-header
+unfolding reading
+returns-in_err-header c =
+    let p = err_from_is_err_and c.from_residual.result c.from_residual.ensures.1 in
+    let e = c.in_err-header.ensures in
+    rw (read_refused c.args.chart.now c.args.text.now _ e, p.1, p.2) (record { result_value = rw (refused_broken _ _ e) refl; text_after = refl })
+
+pub overflow_cast-header : goal.overflow_cast-header
+overflow_cast-header c =
+    let n = c.in_ok-header.header in
+    let is = read_notes_law c.args.chart.now c.args.text.now n.version n.columns n.notes n.draws c.in_ok-header.ensures in
     omega (arith, is.1.0)
 
 pub write_notes-requires : goal.write_notes-requires
 write_notes-requires c =
-    let n = c.in-Chart in
-    let is = read_notes_law c.args.chart.now c.args.text.now n.version n.columns n.notes n.draws (sym (ap meaning c.in-Chart.is) ∙ c.read.ensures) in
+    let n = c.in_ok-header.header in
+    let is = read_notes_law c.args.chart.now c.args.text.now n.version n.columns n.notes n.draws c.in_ok-header.ensures in
     is.0
 
-pub returns-in-Chart : goal.returns-in-Chart
-returns-in-Chart c =
-    let n = c.in-Chart in
-    let is = read_notes_law c.args.chart.now c.args.text.now n.version n.columns n.notes n.draws (sym (ap meaning c.in-Chart.is) ∙ c.read.ensures) in
+pub returns : goal.returns
+returns c =
+    let n = c.in_ok-header.header in
+    let is = read_notes_law c.args.chart.now c.args.text.now n.version n.columns n.notes n.draws c.in_ok-header.ensures in
     rw is.1.1 c.write_notes.ensures
-
-pub returns-in-Refused : goal.returns-in-Refused
-returns-in-Refused c =
-    rw (read_refused c.args.chart.now c.args.text.now _ (sym (ap meaning c.in-Refused.is) ∙ c.read.ensures)) (record { result_value = refl; text_after = refl })

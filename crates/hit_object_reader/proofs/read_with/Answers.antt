@@ -1,8 +1,7 @@
 -- `hit_object_reader::read_with` meets its contract. Assumes nothing.
-use mathlib.Core.Path.{refl, sym, ap, ◌∙◌}
-use Prim.Native.Nat.{◌≤◌}
-use native.Mathlib.Omega.{arith}
-use lib.ListN.{length}
+use Rattle.std.proofs.Common.{◌≡◌, ◌≤◌, refl, sym, ap, ◌∙◌, length, arith}
+use Rattle.std.proofs.lemmas.Result.{err_from_is_err_and}
+use Rattle.rules.specs.declared.Refusal.TheVariants.{HitObjects}
 use Rattle.chart.specs.Layout.{chart_size_in}
 use Rattle.chart.specs.declared.Version.TheVariants.{One}
 use Rattle.chart.specs.Laws.Notes.{encode_put}
@@ -10,33 +9,35 @@ use Rattle.hit_object_reader.specs.Told.{checked_told, lines_notes}
 use Rattle.hit_object_reader.specs.Laws.Texts.{counted, refused_lines, too_short, made}
 use Rattle.hit_object_reader.proofs.read_with.Goals as goal
 
+pub returns-in_err-count : goal.returns-in_err-count
+returns-in_err-count c =
+    let p = err_from_is_err_and c.from_residual.result c.from_residual.ensures.1 in
+    let g = c.in_err-count.ensures in
+    let value = rw g.ok_part at g.value in
+    let number : c.in_err-count.field-0.0 ≡ HitObjects = cc in
+    rw (refused_lines c.args.columns c.args.s.now c.args.chart.now (sym (ap checked_told g.ok_part) ∙ c.check_lines.ensures), p.1, p.2, number) (record { result_value = refl; chart_after = refl })
+
 pub returns-then-size-chart : goal.returns-then-size-chart
 returns-then-size-chart c =
     let s = c.args.s.now in
     let ns = lines_notes c.args.columns s in
-    let g = c.in-Notes in
-    let w = counted c.args.columns c.requires s g.count (sym (ap checked_told g.is) ∙ c.check_lines.ensures) in
+    let g = c.in_ok-count in
+    let w = counted c.args.columns c.requires s g.count (sym (ap checked_told g.ensures.ok_part) ∙ c.check_lines.ensures) in
     rw (too_short c.args.columns s c.args.chart.now ns w.1.0 (omega (arith, w.1.1))) (record { result_value = refl; chart_after = refl })
 
 pub put_notes-requires : goal.put_notes-requires
 put_notes-requires c =
-    let s = c.args.s.now in
-    let ns = lines_notes c.args.columns s in
-    let g = c.in-Notes in
-    let w = counted c.args.columns c.requires s g.count (sym (ap checked_told g.is) ∙ c.check_lines.ensures) in
+    let g = c.in_ok-count in
+    let w = counted c.args.columns c.requires c.args.s.now g.count (sym (ap checked_told g.ensures.ok_part) ∙ c.check_lines.ensures) in
     record { lines = (c.requires, w.0); room = omega (arith, w.1.1) }
 
-pub returns-else-size-chart : goal.returns-else-size-chart
-returns-else-size-chart c =
+pub returns : goal.returns
+returns c =
     let s = c.args.s.now in
     let ns = lines_notes c.args.columns s in
-    let g = c.in-Notes in
-    let w = counted c.args.columns c.requires s g.count (sym (ap checked_told g.is) ∙ c.check_lines.ensures) in
+    let g = c.in_ok-count in
+    let w = counted c.args.columns c.requires s g.count (sym (ap checked_told g.ensures.ok_part) ∙ c.check_lines.ensures) in
     let fits : chart_size_in One (length ns) ≤ length c.args.chart.now = omega (arith, w.1.1) in
-    let head = c.put_old_header.ensures in
+    let head = c.put_header.ensures in
     let whole = rw w.1.1 at (encode_put One c.args.chart.now c.args.columns 0 ns fits) in
     rw (made c.args.columns s c.args.chart.now ns w.1.0 fits) (record { result_value = rw w.1.1; chart_after = c.put_notes.ensures ∙ rw head whole })
-
-pub returns-in-Refused : goal.returns-in-Refused
-returns-in-Refused c =
-    rw (refused_lines c.args.columns c.args.s.now c.args.chart.now (sym (ap checked_told c.in-Refused.is) ∙ c.check_lines.ensures)) (record { result_value = refl; chart_after = refl })

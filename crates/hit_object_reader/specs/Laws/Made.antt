@@ -1,6 +1,6 @@
 -- What a text is read as, is a chart: its notes keep the chart reader's rule, and their times are whole.
 -- Assumes nothing.
-use Rattle.std.specs.Prelude.{◌≡◌, refl, Bool, true, false, ◌&&◌, cond, List, [], ◌∷◌, leb, ltb, eqb, pos, length, drop}
+use Rattle.std.specs.Prelude.{◌≡◌, refl, Bool, true, false, ◌&&◌, cond, List, [], ◌∷◌, leb, ltb, eqb, pos, length, drop, None}
 use Rattle.std.proofs.Math.Path.{sym, ap}
 use Rattle.std.proofs.Common.{◌∙◌, subst, mul-le-mul_right, add-mul, leb-true, ltb-true}
 use Rattle.std.proofs.Math.Option.{Option, none, some, bind, map, some-injective}
@@ -16,7 +16,6 @@ use Rattle.floats.specs.Laws.Integers.{int_value}
 use Rattle.model.specs.Limits.{latest_end}
 use Rattle.chart.specs.Layout.{most_in_chart}
 use Rattle.chart.specs.declared.Version.TheVariants.{One}
-use Rattle.chart.specs.declared.Origin.TheVariants.{Untold}
 use Rattle.chart.specs.declared.Note.{Note}
 use Rattle.chart.specs.Time.{time, latest}
 use Rattle.chart.specs.Tests.{both, passes}
@@ -123,18 +122,18 @@ module _ (columns x : ℕ) (low : 1 ≤ columns) where
       least : (q : ℕ) → min q (columns - 1) < columns
       least q = omega arith
 
-  good_circle : (start : ℕ) → start ≤ latest_end → Good columns (record { column = column_of columns x; hold = false; origin = Untold; start = time_of start; duration = 0 })
+  good_circle : (start : ℕ) → start ≤ latest_end → Good columns (record { column = column_of columns x; hold = false; origin = None; start = time_of start; duration = 0 })
   unfolding time_of is_whole start_of end_of Tells
   good_circle start few =
       let size : ticks (time (time_of start)) ≡ start * millisecond = ticks_of start few in
       let none : start * millisecond % millisecond ≡ 0 = mul-mod_left start millisecond in
       record {
-        ok = circle_ok columns (column_of columns x) Untold on_deck (of_int binary64 (pos start)) (of_int-fits binary64 (pos start)) (own_size start few) (rw (own_ticks start few) (up_to start few));
+        ok = circle_ok columns (column_of columns x) None on_deck (of_int binary64 (pos start)) (of_int-fits binary64 (pos start)) (own_size start few) (rw (own_ticks start few) (up_to start few));
         whole = rw (size, ticks_zero, add-zero (start * millisecond), none);
         tells = tt;
       }
 
-  good_hold : (start end : ℕ) → end ≤ latest_end → start < end → Good columns (record { column = column_of columns x; hold = true; origin = Untold; start = time_of start; duration = time_of (end - start) })
+  good_hold : (start end : ℕ) → end ≤ latest_end → start < end → Good columns (record { column = column_of columns x; hold = true; origin = None; start = time_of start; duration = time_of (end - start) })
   unfolding time_of is_whole start_of end_of Tells
   good_hold start end few later =
       let first : start ≤ latest_end = omega arith in
@@ -142,7 +141,7 @@ module _ (columns x : ℕ) (low : 1 ≤ columns) where
       let sum : start * millisecond + (end - start) * millisecond ≡ end * millisecond = let e : start + (end - start) ≡ end = omega arith in sym (add-mul start (end - start) millisecond) ∙ ap (λ (k : ℕ). k * millisecond) e in
       let lasting : 0 < (end - start) * millisecond = mul-pos (omega arith) one_ms in
       record {
-        ok = hold_ok columns (column_of columns x) Untold on_deck (of_int binary64 (pos start)) (of_int-fits binary64 (pos start)) (own_size start first)
+        ok = hold_ok columns (column_of columns x) None on_deck (of_int binary64 (pos start)) (of_int-fits binary64 (pos start)) (own_size start first)
             (of_int binary64 (pos (end - start))) (of_int-fits binary64 (pos (end - start))) (own_size (end - start) rest) (rw (own_ticks (end - start) rest) lasting)
             (rw (own_ticks start first, own_ticks (end - start) rest, sum) (up_to end few));
         whole = rw (ticks_of start first, ticks_of (end - start) rest, sum, mul-mod_left start millisecond, mul-mod_left end millisecond);

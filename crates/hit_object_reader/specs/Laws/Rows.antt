@@ -1,16 +1,11 @@
 -- A line, part by part, and its note.
 -- Assumes nothing.
-use Rattle.std.specs.Prelude.{◌≡◌, true, false, List, ℕ, ◌-◌, ◌≤◌, ◌<◌, drop}
+use Rattle.std.specs.Prelude.{◌≡◌, true, false, List, ℕ, drop}
 use Rattle.std.proofs.Math.Option.{none, some, bind}
-use Rattle.std.proofs.Common.{arith}
-use borrow.Author.Tests.{lt-ltb, le-ltb}
 use Rattle.text.specs.Text.{ascii}
-use Rattle.chart.specs.declared.Origin.TheVariants.{Untold}
-use Rattle.hit_object_reader.specs.declared.rows.Line as Code
-use Rattle.hit_object_reader.specs.declared.rows.Line.TheVariants as L
-use Rattle.hit_object_reader.specs.Told.{line_in}
-use Rattle.hit_object_lines.specs.Lines.{circle, hold, y_part, circle_part, hold_part, end_part}
-use Rattle.hit_object_lines.specs.Reading.{number, starts_with, after, head, hold_on, kind_on, line, column_of, time_of, note_of_line, note_on}
+use Rattle.chart.specs.declared.Note.{Note}
+use Rattle.hit_object_lines.specs.Lines.{Line, circle, hold, y_part, circle_part, hold_part, end_part}
+use Rattle.hit_object_lines.specs.Reading.{number, starts_with, after, head, hold_on, kind_on, line, note_of_line, note_on}
 
 -- ---- x and the start
 
@@ -77,22 +72,11 @@ module _ (columns : ℕ) (s : List ℕ) where
   unfolding note_on bind
   row_none e = rw e
 
-  pub row_circle : (x start : ℕ) (t : List ℕ) → line s ≡ some (circle x start, t)
-      → some (record { column = column_of columns x; hold = false; origin = Untold; start = time_of start; duration = 0 }, t) ≡ note_on columns s
-  unfolding note_on bind note_of_line
-  row_circle x start t e = rw e
+  module _ (l : Line) (t : List ℕ) (e : line s ≡ some (l, t)) where
+    pub row_short : note_of_line columns l ≡ none → none ≡ note_on columns s
+    unfolding note_on bind
+    row_short h = rw (e, h)
 
-  module _ (x start end : ℕ) (t : List ℕ) (e : line s ≡ some (hold x start end, t)) where
-    pub row_short : end ≤ start → none ≡ note_on columns s
-    unfolding note_on bind note_of_line
-    row_short h = rw (e, le-ltb start end h)
-
-    pub row_hold : start < end → some (record { column = column_of columns x; hold = true; origin = Untold; start = time_of start; duration = time_of (end - start) }, t) ≡ note_on columns s
-    unfolding note_on bind note_of_line
-    row_hold h = rw (e, lt-ltb start end h)
-
--- an index after a later one is after an earlier one
-pub line_later : (size at next : ℕ) (r : Code.Line) → at ≤ next → line_in size next r → line_in size at r
-line_later size at next (L.Circle x start k) h i = (i.0, (i.1.0, record { forward = omega (arith, i.1.1.forward); within = i.1.1.within }))
-line_later size at next (L.Hold x start end k) h i = (i.0, (i.1.0, (i.1.1.0, record { forward = omega (arith, i.1.1.1.forward); within = i.1.1.1.within })))
-line_later size at next L.Nothing h i = tt
+    pub row_is : (n : Note) → note_of_line columns l ≡ some n → some (n, t) ≡ note_on columns s
+    unfolding note_on bind
+    row_is n h = rw (e, h)

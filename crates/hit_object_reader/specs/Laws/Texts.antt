@@ -1,7 +1,7 @@
 -- The lines of a text, one after another.
 -- Assumes nothing.
 use Rattle.std.proofs.Math.Path.{◌≡◌, refl, sym, ap}
-use Rattle.std.proofs.Common.{◌∙◌, zero-add, add-zero, add-one, arith, drop_of_length-le, length-drop, drop-cons, take-suc, length-take-le}
+use Rattle.std.proofs.Common.{◌∙◌, zero-add, add-zero, add-one, arith, length-drop, drop-cons, take-suc, length-take-le}
 use Rattle.std.specs.Prelude.{Bool, ◌&&◌, cond, List, [], ◌∷◌, ℕ, zero, suc, ◌+◌, ◌*◌, ◌≤◌, ◌<◌, length, get_or, take, drop}
 use Rattle.std.proofs.Math.Bool.{true, false, and-false}
 use Rattle.std.proofs.Math.Option
@@ -33,18 +33,16 @@ unfolding notes_on
 none_left columns zero = refl
 none_left columns (suc k) = refl
 
-module _ (columns : ℕ) (s : List ℕ) where
-  pub text_end : (k at : ℕ) → length s ≤ at → notes_on k columns (drop at s) ≡ some []
-  text_end k at l = rw (drop_of_length-le s l) (none_left columns k)
+module _ (columns k : ℕ) where
+  pub text_none : (s : List ℕ) → 0 < length s → note_on columns s ≡ none → notes_on (suc k) columns s ≡ none
+  unfolding notes_on bind
+  text_none [] l e = absurd (omega arith)
+  text_none (c ∷ s) l e = rw e
 
-  module _ (k at : ℕ) (l : at < length s) where
-    pub text_none : note_on columns (drop at s) ≡ none → notes_on (suc k) columns (drop at s) ≡ none
-    unfolding notes_on bind
-    text_none e = rw (drop-cons s at 0 l) (rw (rw (drop-cons s at 0 l) at e))
-
-    pub text_next : (n : Note) (r : List ℕ) → note_on columns (drop at s) ≡ some (n, r) → notes_on (suc k) columns (drop at s) ≡ map (λ ns. n ∷ ns) (notes_on k columns r)
-    unfolding notes_on bind
-    text_next n r e = rw (drop-cons s at 0 l) (rw (rw (drop-cons s at 0 l) at e))
+  pub text_next : (s : List ℕ) (n : Note) (r : List ℕ) → 0 < length s → note_on columns s ≡ some (n, r) → notes_on (suc k) columns s ≡ map (λ ns. n ∷ ns) (notes_on k columns r)
+  unfolding notes_on bind
+  text_next [] n r l e = absurd (omega arith)
+  text_next (c ∷ s) n r l e = rw e
 
 -- ---- the count
 
@@ -64,13 +62,13 @@ over last n none = refl
 over last n (some ns) = rw (lt-leb (most_in_chart + suc (length ns)) most_in_chart (omega arith), and-false (in_order last (n ∷ ns)))
 
 -- after the most notes there is no other line
-pub count_full : (last columns k at : ℕ) (s : List ℕ) → at < length s → count_from last most_in_chart (notes_on (suc k) columns (drop at s)) ≡ none
+pub count_full : (last columns k : ℕ) (s : List ℕ) → 0 < length s → count_from last most_in_chart (notes_on (suc k) columns s) ≡ none
 unfolding count_from
-count_full last columns k at s l = by_row (note_on columns (drop at s)) refl
+count_full last columns k s l = by_row (note_on columns s) refl
   where
-    by_row : (o : Option (Note × List ℕ)) → note_on columns (drop at s) ≡ o → count_from last most_in_chart (notes_on (suc k) columns (drop at s)) ≡ none
-    by_row none e = ap (count_from last most_in_chart) (text_none columns s k at l e)
-    by_row (some p) e = ap (count_from last most_in_chart) (text_next columns s k at l p.0 p.1 e) ∙ over last p.0 (notes_on k columns p.1)
+    by_row : (o : Option (Note × List ℕ)) → note_on columns s ≡ o → count_from last most_in_chart (notes_on (suc k) columns s) ≡ none
+    by_row none e = ap (count_from last most_in_chart) (text_none columns k s l e)
+    by_row (some p) e = ap (count_from last most_in_chart) (text_next columns k s p.0 p.1 l e) ∙ over last p.0 (notes_on k columns p.1)
 
 pub count_end : (last k : ℕ) → k ≤ most_in_chart → count_from last k (some []) ≡ some k
 unfolding count_from in_order

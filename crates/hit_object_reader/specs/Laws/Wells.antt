@@ -1,6 +1,7 @@
 -- The notes of a chart and the notes of a text: each kind of list is the other.
 -- Assumes nothing.
-use Rattle.std.specs.Prelude.{◌≡◌, refl, Bool, true, false, cond, List, [], ◌∷◌, ◌++◌, map, eqb, length}
+use Rattle.std.specs.Prelude as Std
+use Rattle.std.specs.Prelude.{◌≡◌, refl, Bool, true, false, cond, List, [], ◌∷◌, ◌++◌, map, eqb, length, None, Some}
 use Rattle.std.proofs.Math.Path.{sym, ap}
 use Rattle.std.proofs.Common.{◌∙◌, ⊎_elim, div-add-mod', add-zero, zero-mul, arith, length-append}
 use Rattle.std.proofs.Math.Option
@@ -12,8 +13,6 @@ use Rattle.floats.specs.Ticks.{ticks}
 use Rattle.chart.specs.Layout.{most_in_chart}
 use Rattle.chart.specs.declared.Version.{Version}
 use Rattle.chart.specs.declared.Version.TheVariants.{One}
-use Rattle.chart.specs.declared.Origin.{Origin}
-use Rattle.chart.specs.declared.Origin.TheVariants.{Untold, Object}
 use Rattle.chart.specs.declared.Note.{Note}
 use Rattle.chart.specs.Time.{time}
 use Rattle.chart.specs.Tests.{both, passes, either_way}
@@ -30,7 +29,7 @@ use Rattle.hit_object_reader.specs.Laws.Back.{Few, line_back, column_back, x_few
 
 -- ---- from a note to its line and back
 
-same_note : (n : Note) {c s d : ℕ} {h : Bool} → c ≡ n.column → h ≡ n.hold → s ≡ n.start → d ≡ n.duration → ◌≡◌ {A = Note} (record { column = c; hold = h; origin = Untold; start = s; duration = d }) (untold n)
+same_note : (n : Note) {c s d : ℕ} {h : Bool} → c ≡ n.column → h ≡ n.hold → s ≡ n.start → d ≡ n.duration → ◌≡◌ {A = Note} (record { column = c; hold = h; origin = None; start = s; duration = d }) (untold n)
 same_note n ec eh es ed = rw (ec, eh, es, ed) refl
 
 -- a whole time has the pattern of its milliseconds
@@ -153,15 +152,15 @@ pub length_untold : (ns : List Note) → length (map untold ns) ≡ length ns
 length_untold ns = length_map untold ns
 
 -- a note of version 1 has no object to lose
-same_origin : (o : Origin) → Tells One o → Untold ≡ o
+same_origin : (o : Std.Option ℕ) → Tells One o → None ≡ o
 unfolding Tells
-same_origin Untold t = refl
-same_origin (Object i) t = absurd t
+same_origin None t = refl
+same_origin (Some i) t = absurd t
 
 pub untold_same : (ns : List Note) → Each (λ n. Tells One n.origin) ns → map untold ns ≡ ns
 untold_same [] t = refl
 untold_same (n ∷ ns) t =
-    let here : untold n ≡ n = ap (λ (o : Origin). record { column = n.column; hold = n.hold; origin = o; start = n.start; duration = n.duration }) (same_origin n.origin t.0) in
+    let here : untold n ≡ n = ap (λ (o : Std.Option ℕ). record { column = n.column; hold = n.hold; origin = o; start = n.start; duration = n.duration }) (same_origin n.origin t.0) in
     rw (here, untold_same ns t.1)
 
 -- the notes of a chart, with whole times, are but for their objects those of their lines

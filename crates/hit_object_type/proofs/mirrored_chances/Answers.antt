@@ -1,31 +1,32 @@
 -- `hit_object_type::mirrored_chances` meets its contract. Assumes nothing.
+use native.Mathlib.Omega.{arith}
 use lib.Ieee.{round, of_bits}
-use borrow.Author.Tests.{eq-eqb, ne_eqb}
+use borrow.Author.Tests.{ne_eqb}
 use Rattle.mania.specs.HitObject.{mirrored_chances}
 use Rattle.hit_object_type.proofs.mirrored_chances.Goals as goal
 
-pub returns-then-columns-eq2 : goal.returns-then-columns-eq2
+pub returns-in-2 : goal.returns-in-2
 unfolding mirrored_chances round of_bits
-returns-then-columns-eq2 c = rw (eq-eqb _ _ c.if-columns-eq2.true)
+returns-in-2 c = rw c.in-2.is
 
-pub returns-then-columns-eq3 : goal.returns-then-columns-eq3
+pub returns-in-3 : goal.returns-in-3
 unfolding mirrored_chances round of_bits
-returns-then-columns-eq3 c = rw (ne_eqb _ _ c.if-columns-eq2.false, eq-eqb _ _ c.if-columns-eq3.true, c.min-small.ensures)
+returns-in-3 c = rw (c.in-3.is, c.min.ensures)
 
-pub returns-then-columns-eq4 : goal.returns-then-columns-eq4
+pub returns-in-4 : goal.returns-in-4
 unfolding mirrored_chances round of_bits
-returns-then-columns-eq4 c =
-    rw (ne_eqb _ _ c.if-columns-eq2.false, ne_eqb _ _ c.if-columns-eq3.false, eq-eqb _ _ c.if-columns-eq4.true, c.halved-q2.ensures)
+returns-in-4 c = rw (c.in-4.is, c.halved.ensures)
 
-pub returns-then-columns-eq5 : goal.returns-then-columns-eq5
+pub returns-in-5 : goal.returns-in-5
 unfolding mirrored_chances round of_bits
-returns-then-columns-eq5 c = rw (ne_eqb _ _ c.if-columns-eq2.false, ne_eqb _ _ c.if-columns-eq3.false, ne_eqb _ _ c.if-columns-eq4.false, eq-eqb _ _ c.if-columns-eq5.true, c.min-small.ensures)
+returns-in-5 c = rw (c.in-5.is, c.min-in-5.ensures)
 
-pub returns-then-columns-eq6 : goal.returns-then-columns-eq6
+pub returns-in-6 : goal.returns-in-6
 unfolding mirrored_chances round of_bits
-returns-then-columns-eq6 c =
-    rw (ne_eqb _ _ c.if-columns-eq2.false, ne_eqb _ _ c.if-columns-eq3.false, ne_eqb _ _ c.if-columns-eq4.false, ne_eqb _ _ c.if-columns-eq5.false, eq-eqb _ _ c.if-columns-eq6.true, c.halved-q2-then-columns-eq6.ensures, c.halved-q3.ensures)
+returns-in-6 c = rw (c.in-6.is, c.halved-in-6.ensures, c.halved-in-6-2.ensures)
 
-pub returns : goal.returns
+pub returns-in_default : goal.returns-in_default
 unfolding mirrored_chances
-returns c = rw (ne_eqb _ _ c.if-columns-eq2.false, ne_eqb _ _ c.if-columns-eq3.false, ne_eqb _ _ c.if-columns-eq4.false, ne_eqb _ _ c.if-columns-eq5.false, ne_eqb _ _ c.if-columns-eq6.false)
+returns-in_default c =
+    let n = c.args.columns in
+    rw (ne_eqb n 2 (omega arith), ne_eqb n 3 (omega arith), ne_eqb n 4 (omega arith), ne_eqb n 5 (omega arith), ne_eqb n 6 (omega arith))

@@ -3,22 +3,22 @@ use Rattle.mania.specs.PatternType.{◌⊔ₜ◌}
 use Rattle.mania.specs.HitObject.{type_by_sound}
 use Rattle.hit_object_type.proofs.type_by_sound.Goals as goal
 
-pub returns-then-single : goal.returns-then-single
+pub returns-then-has_type : goal.returns-then-has_type
 unfolding type_by_sound
-returns-then-single c =
-    rw (← c.has_type-single.ensures, c.if-single.true)
+returns-then-has_type c =
+    rw (← c.has_type.ensures, c.if-has_type.true)
 
-pub returns-then-mirrored : goal.returns-then-mirrored
+pub returns-then-has_flag-columns : goal.returns-then-has_flag-columns
 unfolding type_by_sound ◌⊔ₜ◌
-returns-then-mirrored c =
-    rw (← c.has_type-single.ensures, ← c.has_flag-finish.ensures, c.if-single.false, c.if-mirrored.true)
+returns-then-has_flag-columns c =
+    rw (← c.has_type.ensures, ← c.has_flag.ensures, c.if-has_type.false, c.if-has_flag-columns.true)
 
-pub returns-then-clap : goal.returns-then-clap
+pub returns-then-has_flag : goal.returns-then-has_flag
 unfolding type_by_sound ◌⊔ₜ◌
-returns-then-clap c =
-    rw (← c.has_type-single.ensures, ← c.has_flag-finish.ensures, ← c.has_flag-clap.ensures, c.if-single.false, c.if-mirrored.false, c.if-clap.true)
+returns-then-has_flag c =
+    rw (← c.has_type.ensures, ← c.has_flag.ensures, ← c.has_flag-2.ensures, c.if-has_type.false, c.if-has_flag-columns.false, c.if-has_flag.true)
 
 pub returns : goal.returns
 unfolding type_by_sound
 returns c =
-    rw (← c.has_type-single.ensures, ← c.has_flag-finish.ensures, ← c.has_flag-clap.ensures, c.if-single.false, c.if-mirrored.false, c.if-clap.false)
+    rw (← c.has_type.ensures, ← c.has_flag.ensures, ← c.has_flag-2.ensures, c.if-has_type.false, c.if-has_flag-columns.false, c.if-has_flag.false)

@@ -10,7 +10,7 @@ returns-then-since c = rw c.if-since.true
 
 pub returns-then-since-2 : goal.returns-then-since-2
 unfolding type_by_time ◌⊔ₜ◌ round of_bits
-returns-then-since-2 c = rw (← c.stair_bit-bit.ensures, c.if-since.false, c.if-since-2.true)
+returns-then-since-2 c = rw (← c.stair_bit.ensures, c.if-since.false, c.if-since-2.true)
 
 pub returns-then-since-3 : goal.returns-then-since-3
 unfolding type_by_time ◌⊔ₜ◌ round of_bits
@@ -20,26 +20,26 @@ pub returns-then-since-4 : goal.returns-then-since-4
 unfolding type_by_time ◌⊔ₜ◌ round of_bits
 returns-then-since-4 c = rw (c.if-since.false, c.if-since-2.false, c.if-since-3.false, c.if-since-4.true)
 
-pub returns-then-fast : goal.returns-then-fast
+pub returns-then-since-close : goal.returns-then-since-close
 unfolding type_by_time ◌⊔ₜ◌ round of_bits
-returns-then-fast c = rw (← c.near-close.ensures, c.if-since.false, c.if-since-2.false, c.if-since-3.false, c.if-since-4.false, c.if-fast.true)
+returns-then-since-close c = rw (← c.near-close.ensures, c.if-since.false, c.if-since-2.false, c.if-since-3.false, c.if-since-4.false, c.if-since-close.true)
 
-pub returns-then-slower : goal.returns-then-slower
+pub returns-then-since-close-2 : goal.returns-then-since-close-2
 unfolding type_by_time ◌⊔ₜ◌ round of_bits
-returns-then-slower c = rw (← c.near-close.ensures, c.if-since.false, c.if-since-2.false, c.if-since-3.false, c.if-since-4.false, c.if-fast.false, c.if-slower.true)
+returns-then-since-close-2 c = rw (← c.near-close.ensures, c.if-since.false, c.if-since-2.false, c.if-since-3.false, c.if-since-4.false, c.if-since-close.false, c.if-since-close-2.true)
 
-pub returns-then-stream : goal.returns-then-stream
+pub returns-then-close-dense : goal.returns-then-close-dense
 unfolding type_by_time ◌⊔ₜ◌ round of_bits
-returns-then-stream c = rw (← c.near-close.ensures, c.if-since.false, c.if-since-2.false, c.if-since-3.false, c.if-since-4.false, c.if-fast.false, c.if-slower.false, c.if-stream.true)
+returns-then-close-dense c = rw (← c.near-close.ensures, c.if-since.false, c.if-since-2.false, c.if-since-3.false, c.if-since-4.false, c.if-since-close.false, c.if-since-close-2.false, c.if-close-dense.true)
 
-pub returns-then-density-dense : goal.returns-then-density-dense
+pub returns-then-f-dense : goal.returns-then-f-dense
 unfolding type_by_time ◌⊔ₜ◌ round of_bits
-returns-then-density-dense c = rw (← c.near-close.ensures, c.if-since.false, c.if-since-2.false, c.if-since-3.false, c.if-since-4.false, c.if-fast.false, c.if-slower.false, c.if-stream.false, c.if-density-dense.true)
+returns-then-f-dense c = rw (← c.near-close.ensures, c.if-since.false, c.if-since-2.false, c.if-since-3.false, c.if-since-4.false, c.if-since-close.false, c.if-since-close-2.false, c.if-close-dense.false, c.if-f-dense.true)
 
-pub returns-then-kiai : goal.returns-then-kiai
+pub returns-then-f : goal.returns-then-f
 unfolding type_by_time ◌⊔ₜ◌ round of_bits
-returns-then-kiai c = rw (← c.near-close.ensures, c.if-since.false, c.if-since-2.false, c.if-since-3.false, c.if-since-4.false, c.if-fast.false, c.if-slower.false, c.if-stream.false, c.if-density-dense.false, c.if-kiai.true)
+returns-then-f c = rw (← c.near-close.ensures, c.if-since.false, c.if-since-2.false, c.if-since-3.false, c.if-since-4.false, c.if-since-close.false, c.if-since-close-2.false, c.if-close-dense.false, c.if-f-dense.false, c.if-f.true)
 
 pub returns : goal.returns
 unfolding type_by_time ◌⊔ₜ◌ round of_bits
-returns c = rw (← c.near-close.ensures, c.if-since.false, c.if-since-2.false, c.if-since-3.false, c.if-since-4.false, c.if-fast.false, c.if-slower.false, c.if-stream.false, c.if-density-dense.false, c.if-kiai.false)
+returns c = rw (← c.near-close.ensures, c.if-since.false, c.if-since-2.false, c.if-since-3.false, c.if-since-4.false, c.if-since-close.false, c.if-since-close-2.false, c.if-close-dense.false, c.if-f-dense.false, c.if-f.false)

@@ -1,5 +1,5 @@
 -- A slider's times, of facts in document 01's ranges: the end is not before the rounded start, and a larger distance has no earlier end. Assumes nothing.
-use Rattle.std.specs.Prelude.{◌≡◌, refl, ℕ, zero, suc, ◌+◌, ◌*◌, ◌^◌, ◌≤◌, ◌<◌, Bool, true, false, cond, ltb, pos, Float, if◌then◌else◌}
+use Rattle.std.specs.Prelude.{◌≡◌, refl, ℕ, zero, suc, ◌+◌, ◌*◌, ◌^◌, ◌≤◌, ◌<◌, Bool, true, false, cond, ltb, pos, Float, if◌then◌else◌, Option}
 use Rattle.std.proofs.Common.{sym, ◌∙◌, le_trans, le_of_eq, mul-one, mul_right_comm, le_of_mul-le-mul_right, mul-le-mul_right, arith, lit<, lit≤}
 use Rattle.std.proofs.Math.Path.{ap}
 use Rattle.std.specs.Float.{nan, inf, fin, Format, binary32}
@@ -16,7 +16,6 @@ use Rattle.floats.specs.Laws.Monotone.{Below, mul_below, div_below, add_below, c
 use Rattle.floats.specs.Laws.Wholes.{count_lt, count_ge}
 use Rattle.floats.specs.declared.Way.TheVariants.{Floor, Even}
 use Rattle.mania.specs.declared.Facts.{Facts}
-use Rattle.model.specs.declared.Distance.{Distance}
 use Rattle.model.specs.declared.Object.{Object}
 use Rattle.floats.specs.Least.{clamped}
 use Rattle.mania.specs.Steps.{single, double, double#}
@@ -142,7 +141,7 @@ int_whole : (n : ℕ) → n ≤ 2 ^ 53 → num (double# n) ≡ n * den (double# 
 unfolding of_int
 int_whole n h = let x = round binary64 false n 1 in sym (mul-one (num x)) ∙ value→cross x n 1 (round_whole binary64 false n h)
 
-module _ (f : Facts) (o : Object) (spans : ℕ) (distance : Distance) (n : spans ≤ most_spans) (d : UpTo longest_distance (distance_of distance)) (v : AtLeast 10 f.velocity) (b : UpTo longest_beat f.beat)
+module _ (f : Facts) (o : Object) (spans : ℕ) (distance : Option Float) (n : spans ≤ most_spans) (d : UpTo longest_distance (distance_of distance)) (v : AtLeast 10 f.velocity) (b : UpTo longest_beat f.beat)
     (m : AtLeast 3 f.multiplier) where
   abbrev start : ℕ
   start = start_time o
@@ -207,7 +206,7 @@ module _ (f : Facts) (o : Object) (spans : ℕ) (distance : Distance) (n : spans
       (le_of_mul-le-mul_right (le_trans (le_of_eq (mul_right_comm start (den S) (den x) ∙ ap (λ (z : ℕ). z * den S) (sym (int_whole start start_small)))) g) (den_pos x))
 
 -- ---- a larger distance has no earlier end: each step keeps the order, and so does the floor
-module _ (f : Facts) (o : Object) (spans : ℕ) (near far : Distance) (n : spans ≤ most_spans) (d : UpTo longest_distance (distance_of near)) (e : UpTo longest_distance (distance_of far)) (v : AtLeast 10 f.velocity)
+module _ (f : Facts) (o : Object) (spans : ℕ) (near far : Option Float) (n : spans ≤ most_spans) (d : UpTo longest_distance (distance_of near)) (e : UpTo longest_distance (distance_of far)) (v : AtLeast 10 f.velocity)
     (b : UpTo longest_beat f.beat) (m : AtLeast 3 f.multiplier) (h : Below (distance_of near) (distance_of far)) where
   pub end_mono : end_time f o spans near ≤ end_time f o spans far
   unfolding end_time

@@ -4,4 +4,4 @@ use Rattle.notes.proofs.pattern_of.Goals as goal
 
 pub returns : goal.returns
 unfolding pattern_of
-returns c = rw (c.bits_f64-start.ensures, c.bits_f64-duration.ensures)
+returns c = rw (c.f64_to_bits_with_nan-start.ensures, c.f64_to_bits_with_nan-duration.ensures)

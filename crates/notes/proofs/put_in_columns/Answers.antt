@@ -9,7 +9,7 @@ pub loop-i-init : goal.loop-i-init
 loop-i-init c = none_yet _ _ _ _ _ (omega arith) (omega arith)
 
 pub put_note-requires : goal.put_note-requires
-put_note-requires c = (omega arith, omega arith, omega arith)
+put_note-requires c = omega arith
 
 pub loop-i-preserved : goal.loop-i-preserved
 loop-i-preserved c =

@@ -1,10 +1,6 @@
-use Prim.Native.Nat.{◌-◌}
 use Rattle.notes.proofs.Columns.{row_in}
 use Rattle.notes.proofs.Written.{Wrote}
 use Rattle.notes.proofs.put_in_columns.Given as goal
 
 abbrev pub invariant-loop-i : goal.invariant-loop-i
 invariant-loop-i l = Wrote (row_in l.index l.p) l.words l.count l.initial.s l.at l.s l.i
-
-abbrev pub decreases-loop-i : goal.decreases-loop-i
-decreases-loop-i l = l.count - l.i

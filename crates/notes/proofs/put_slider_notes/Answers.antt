@@ -2,7 +2,6 @@
 use mathlib.Core.Path.{refl}
 use native.Mathlib.Omega.{arith}
 use Rattle.slider_notes.specs.Words.{note_of_word}
-use Rattle.notes.proofs.Columns.{slider_narrow, told_below}
 use Rattle.notes.proofs.Written.{none_yet, put_next, all_written}
 use Rattle.notes.proofs.put_slider_notes.Goals as goal
 
@@ -10,8 +9,7 @@ pub loop-i-init : goal.loop-i-init
 loop-i-init c = none_yet _ _ _ _ _ (omega arith) (omega arith)
 
 pub put_note-requires : goal.put_note-requires
-put_note-requires c =
-    (rw (c.pattern_of-p.ensures, c.note_of-n.ensures) (slider_narrow _ _), rw c.pattern_of-p.ensures (told_below _ _ (omega arith)), omega arith)
+put_note-requires c = omega arith
 
 pub loop-i-preserved : goal.loop-i-preserved
 loop-i-preserved c =

@@ -1,4 +1,4 @@
-use Prim.Native.Nat.{ℕ, ◌-◌}
+use Prim.Native.Nat.{ℕ}
 use Rattle.chart.specs.declared.Note as Patterns
 use Rattle.mania.specs.Chart.{pattern_of}
 use Rattle.slider_notes.specs.Words.{note_of_word}
@@ -11,6 +11,3 @@ row i w = pattern_of i (note_of_word w)
 
 abbrev pub invariant-loop-i : goal.invariant-loop-i
 invariant-loop-i l = Wrote (row l.index) l.words l.count l.initial.s l.at l.s l.i
-
-abbrev pub decreases-loop-i : goal.decreases-loop-i
-decreases-loop-i l = l.count - l.i

@@ -1,8 +1,8 @@
 -- `object_numbers::tell` meets its contract. Assumes nothing.
 use Rattle.object_numbers.proofs.tell.Goals as goal
 
-pub returns-in-Made : goal.returns-in-Made
-returns-in-Made c = λ notes. rw (c.in-Made.is, c.stair_number.ensures)
+pub returns-in-Ok : goal.returns-in-Ok
+returns-in-Ok c = λ notes. rw (c.in-Ok.is, c.stair_number.ensures)
 
-pub returns-in-Refused : goal.returns-in-Refused
-returns-in-Refused c = λ notes. rw c.in-Refused.is
+pub returns-in-Err : goal.returns-in-Err
+returns-in-Err c = λ notes. rw (c.in-Err.is, c.from.ensures)

@@ -3,7 +3,7 @@ use mathlib.Core.Path.{sym}
 use native.Mathlib.Omega.{arith}
 use Rattle.slider_notes.specs.Words.{of_word}
 use Rattle.pattern.specs.Laws.Words.{empty_is}
-use Rattle.slider_patterns.proofs.Bounds.{places}
+use Rattle.slider_notes.proofs.Ends.{places}
 use Rattle.path_object.proofs.Bounds.{fits}
 use borrow.Author.Tests.{lt-ltb, le-ltb, eq-eqb, ne_eqb}
 use Rattle.mania.specs.PathObject.{generate_core}

@@ -14,8 +14,8 @@ second n k m e h = omega arith
 
 pub returns-then-n-last : goal.returns-then-n-last
 unfolding column width round of_bits
-returns-then-n-last c = first _ _ _ c.to_count_f32-n.ensures c.if-n-last.true
+returns-then-n-last c = first _ _ _ c.to_count-n.ensures c.if-n-last.true
 
 pub returns-else-n-last : goal.returns-else-n-last
 unfolding column width round of_bits
-returns-else-n-last c = second _ _ _ c.to_count_f32-n.ensures c.if-n-last.false
+returns-else-n-last c = second _ _ _ c.to_count-n.ensures c.if-n-last.false

@@ -116,8 +116,8 @@ module _ (lower upper taken : ℕ) where
           → draw_on made d ≡ draw_on (made + 1) e
       draw_miss v e c h i f = took_until d v e h long_search passes finds (search_limit - made) made some ∙ rw (← i, f, fewer, add-one made)
 
-      pub draw_out : on value d ≡ refused Numbers.no_draw_left d → draw_on made d ≡ refused Numbers.no_draw_left (searched made d)
-      draw_out h = none_until long_search passes finds (search_limit - made) made d d h some
+      pub draw_out : (x : ℕ) (e : Draws) → on value d ≡ refused x e → draw_on made d ≡ refused Numbers.no_draw_left (searched made d)
+      draw_out x e h = none_until long_search passes finds (search_limit - made) made d x e h some
 
     pub draw_over : search_limit ≤ made → draw_on made d ≡ refused Numbers.long_search (searched made d)
     draw_over h = let z : search_limit - made ≡ 0 = omega arith in limit_until long_search passes finds (search_limit - made) made d z

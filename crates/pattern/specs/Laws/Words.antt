@@ -1,12 +1,13 @@
 -- A word more in a buffer is a note more in the pattern that it means, so many words are so many notes, and a bound on them may be raised. Assumes nothing.
-use Rattle.std.specs.Prelude.{◌≡◌, ℕ, ◌+◌, ◌≤◌, ◌<◌, List, [], ◌∷◌, ◌++◌, map, length, take, set}
+use Rattle.std.specs.Prelude.{◌≡◌, ℕ, ◌+◌, ◌≤◌, ◌<◌, List, [], ◌∷◌, ◌++◌, map, length, take, set, Result, Ok, Err}
 use Rattle.std.proofs.Math.Path.{refl}
 use Rattle.std.proofs.Common.{ap, ◌∙◌, add-one, arith, take-suc-set, length-take-le}
 use Rattle.std.proofs.lemmas.List.{map-append, length-map}
 use Rattle.mania.specs.Pattern.{empty}
 use Rattle.pattern.specs.Answers.{pattern, AtMost}
-use Rattle.pattern.specs.declared.Placed.{Placed}
-use Rattle.pattern.specs.declared.Placed.TheVariants as P
+use Rattle.random.specs.declared.Draws.{Draws}
+use Rattle.random.specs.declared.Refused.{Refused}
+use Rattle.pattern.specs.declared.Pattern as Lent
 
 module _ {A : Type 0} (read : ℕ → A) where
   pub one_more : (words : List ℕ) (n w : ℕ) → n < length words → map read (take (n + 1) (set words n w)) ≡ map read (take n words) ++ read w ∷ []
@@ -20,6 +21,6 @@ module _ {A : Type 0} (read : ℕ → A) where
   unfolding pattern empty
   empty_is words = refl
 
-pub at_most_le : (n m : ℕ) → n ≤ m → (r : Placed) → AtMost n r → AtMost m r
-at_most_le n m h (P.Notes p d) l = omega arith
-at_most_le n m h (P.Refused x d) l = tt
+pub at_most_le : (n m : ℕ) → n ≤ m → (r : Result (Lent.Pattern × Draws) Refused) → AtMost n r → AtMost m r
+at_most_le n m h (Ok (p, d)) l = omega arith
+at_most_le n m h (Err e) l = tt

@@ -1,4 +1,4 @@
-use Prim.Native.Nat.{◌-◌, ◌≤◌}
+use Prim.Native.Nat.{◌≤◌}
 use Rattle.record.specs.Layout as At
 use Rattle.points.specs.Lasting.{Reached}
 use Rattle.points.proofs.Lookups.{amount}
@@ -7,6 +7,3 @@ use Rattle.points.proofs.points_up_to.Given as goal
 abbrev pub invariant-loop-number : goal.invariant-loop-number
 invariant-loop-number l =
     (l.number ≤ l.count) × (l.width ≤ At.entry) × (l.number ≤ amount l.s l.width l.at l.count l.t) × Reached (amount l.s l.width l.at l.count) l.number l.from
-
-abbrev pub decreases-loop-number : goal.decreases-loop-number
-decreases-loop-number l = l.count - l.number

@@ -33,15 +33,15 @@ module _ (d : Draws) (v : ℕ) (e : Draws) (h : on value d ≡ found v e) where
   took_until r test k more made m =
       until_some (λ p. spent_number) number tt r test k more made d.tally.left d.tally.longest d.random m got.some ∙ rw (got.is_v, got.is_e)
 
-none_left : (l g : ℕ) (s : Random) (e : Draws) → play (λ p. spent_number) number value l g s ≡ refused spent_number e → l ≡ 0
+none_left : (l g : ℕ) (s : Random) (x : ℕ) (e : Draws) → play (λ p. spent_number) number value l g s ≡ refused x e → l ≡ 0
 unfolding play
-none_left zero g s e h = refl
-none_left (suc l) g s e h = let z : ◌≡◌ {A = ℕ} 0 1 = cc in absurd (omega arith)
+none_left zero g s x e h = refl
+none_left (suc l) g s x e h = let z : ◌≡◌ {A = ℕ} 0 1 = cc in absurd (omega arith)
 
 module _ {A : Type 0} (r : Refusal) (test : ℕ → Bool) (k : ℕ → ℕ → ObjectRule A) (more made : ℕ) (d : Draws) where
   -- a search that may make a draw, and finds none left
-  pub none_until : (e : Draws) → on value d ≡ refused spent_number e → (more ≡ 0 → ⊥) → on_until r test k more made d ≡ refused spent_number (searched made d)
-  none_until e h m = until_none (λ p. spent_number) number tt r test k more made d m (none_left d.tally.left d.tally.longest d.random e h)
+  pub none_until : (x : ℕ) (e : Draws) → on value d ≡ refused x e → (more ≡ 0 → ⊥) → on_until r test k more made d ≡ refused spent_number (searched made d)
+  none_until x e h m = until_none (λ p. spent_number) number tt r test k more made d m (none_left d.tally.left d.tally.longest d.random x e h)
 
   -- a search that may make no more draws
   pub limit_until : more ≡ 0 → on_until r test k more made d ≡ refused (number r) (searched made d)

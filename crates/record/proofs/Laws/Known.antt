@@ -1,5 +1,5 @@
 -- A caller of `check_record` knows of an accepted record what `Known` says. Assumes nothing.
-use Rattle.std.specs.Prelude.{◌≡◌, refl, List, Float, drop}
+use Rattle.std.specs.Prelude.{◌≡◌, refl, List, Float, drop, Ok}
 use Rattle.std.proofs.Common.{sym, ap, ◌∙◌, subst, arith}
 use Prim.Native.Nat.{ℕ, zero, suc, ◌+◌, ◌*◌, ◌/◌, ◌%◌, ◌≤◌, ◌<◌}
 use Rattle.model.specs.Song.{Song}
@@ -7,7 +7,6 @@ use Rattle.record.specs.declared.section.Section.{Section}
 use Rattle.record.specs.declared.section.Section.TheVariants.{Breaks, TimingPoints, DifficultyPoints, EffectPoints}
 use Rattle.record.specs.declared.header.Counts.{Counts}
 use Rattle.record.specs.declared.Summary.{Summary}
-use Rattle.record.specs.declared.Checked.TheVariants.{Accepted}
 use Rattle.record.specs.Layout as At
 use Rattle.record.specs.Refusal.{f64_at, entries_refusal}
 use Rattle.record.specs.Header.{counts_of}
@@ -110,16 +109,16 @@ known_of s e h =
       objects_part = λ l. byte_of _ _ (first_object s h l);
     })
 
-accepted_is : (p : Parsed) (m : Summary) → checked_of p ≡ Accepted m → (song : Song) → p ≡ accepted song → m ≡ summary_of song
+accepted_is : (p : Parsed) (m : Summary) → checked_of p ≡ Ok m → (song : Song) → p ≡ accepted song → m ≡ summary_of song
 accepted_is (accepted other) m e song f = cc
 accepted_is (refused n) m e song f = cc
 
-some_song : (s : List ℕ) (p : Parsed) (m : Summary) → parse s ≡ p → checked_of p ≡ Accepted m → Known s m
+some_song : (s : List ℕ) (p : Parsed) (m : Summary) → parse s ≡ p → checked_of p ≡ Ok m → Known s m
 some_song s (refused n) m f e = absurd (let z : ◌≡◌ {A = ℕ} 0 1 = cc in omega arith)
 some_song s (accepted song) m f e =
     let h = accepted_none s song f in
     let g : parse s ≡ accepted (song_of s) = f ∙ ap accepted h.1 in
     subst (Known s) (sym (accepted_is (accepted song) m e (song_of s) (ap accepted h.1))) (known_of s g (parts s h.0))
 
-pub known : (s : List ℕ) (m : Summary) → checked_of (parse s) ≡ Accepted m → Known s m
+pub known : (s : List ℕ) (m : Summary) → checked_of (parse s) ≡ Ok m → Known s m
 known s m e = some_song s (parse s) m refl e

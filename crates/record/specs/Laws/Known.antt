@@ -1,13 +1,12 @@
 -- What a caller of `check_record` knows of an accepted record: its song, its lists by place and count, and what the lookups and the walk ask
 -- (proofs/Laws/Known: it does); and that a refused check is a refused record. Assumes nothing.
-use Rattle.std.specs.Prelude.{◌≡◌, List, length, drop}
+use Rattle.std.specs.Prelude.{◌≡◌, List, length, drop, Err}
 use Prim.Native.Nat.{ℕ, ◌/◌, ◌%◌, ◌<◌}
 use Rattle.model.specs.Song.{Song}
 use Rattle.model.specs.Totals.{first_start, last_start, sliders_and_spinners}
 use Rattle.record.specs.declared.section.Section.TheVariants.{TimingPoints, DifficultyPoints, EffectPoints}
 use Rattle.record.specs.declared.header.Counts.{Counts}
 use Rattle.record.specs.declared.Summary.{Summary}
-use Rattle.record.specs.declared.Checked.TheVariants.{Refused}
 use Rattle.record.specs.Layout as At
 use Rattle.record.specs.Header.{SmallCounts}
 use Rattle.record.specs.Section.{breaks, timing_points, difficulty_points, effect_points}
@@ -16,11 +15,11 @@ use Rattle.record.specs.Lookup.{Rising}
 use Rattle.record.specs.Record.{NearPlaces, song_of, Parsed, accepted, refused, parse, summary_of, checked_of}
 
 -- a refused check is a refused record
-refused_by_law : (p : Parsed) (n : ℕ) → checked_of p ≡ Refused n → p ≡ refused n
+refused_by_law : (p : Parsed) (n : ℕ) → checked_of p ≡ Err n → p ≡ refused n
 refused_by_law (accepted song) n e = cc
 refused_by_law (refused m) n e = cc
 
-pub checked_refused : (s : List ℕ) (n : ℕ) → checked_of (parse s) ≡ Refused n → parse s ≡ refused n
+pub checked_refused : (s : List ℕ) (n : ℕ) → checked_of (parse s) ≡ Err n → parse s ≡ refused n
 checked_refused s n e = refused_by_law (parse s) n e
 
 -- ---- what is known

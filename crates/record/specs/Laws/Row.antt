@@ -2,6 +2,9 @@
 use Rattle.std.specs.Prelude.{◌≡◌, refl, ℕ, zero, suc, ◌+◌, ◌*◌, ◌≤◌, Bool, true, false, ◌||◌, List, [], ◌∷◌, ◌++◌, ltb, length}
 use Rattle.std.proofs.Common.{sym, ap, ◌∙◌, suc-ne-zero, arith, lit≤, ltb-true, lt-ltb}
 use Rattle.rules.specs.Numbers as Numbers
+use Rattle.rules.specs.declared.Refusal.{Refusal}
+use Rattle.rules.specs.Coded.{code}
+use Rattle.rules.specs.Laws.Coded.{code_some}
 use Rattle.bits.specs.Field.{short}
 use Rattle.record.specs.Layout as At
 use Rattle.record.specs.Refusal.{◌gives◌, ◌then◌, Field, plain, field_refusal, fields_refusal}
@@ -17,11 +20,27 @@ pub then_skip : (a b : ℕ) → a ≡ 0 → (a then b) ≡ b
 unfolding ◌then◌
 then_skip a b h = rw h
 
+-- as the code goes along a row: no refusal has the number 0, so one that comes is the row's,
+pub row_stop : (a b : ℕ) (r : Refusal) → code r ≡ a → (a then b) ≡ code r
+row_stop a b r h = rw (← h) (sym (then_some (code r) b (code_some r)))
+
+-- and after a condition that does not apply the row is the rest
+pub row_next : (a b : ℕ) → 0 ≡ a → (a then b) ≡ b
+row_next a b h = then_skip a b (sym h)
+
 -- a row refuses nothing exactly where no condition of it applies
 pub then_none : (a b : ℕ) → (a then b) ≡ 0 → (a ≡ 0) × (b ≡ 0)
 unfolding ◌then◌
 then_none zero b h = (refl, h)
 then_none (suc a) b h = absurd (suc-ne-zero a h)
+
+pub gives_yes : (t : Bool) (n : ℕ) → t ≡ true → (t gives n) ≡ n
+unfolding ◌gives◌
+gives_yes t n h = rw h
+
+pub gives_no : (t : Bool) (n : ℕ) → t ≡ false → (t gives n) ≡ 0
+unfolding ◌gives◌
+gives_no t n h = rw h
 
 pub gives_none : (t : Bool) (n : ℕ) → (t gives suc n) ≡ 0 → t ≡ false
 unfolding ◌gives◌
@@ -50,6 +69,9 @@ own_two zero true false zero = refl
 own_two zero true b (suc n) = refl
 own_two zero false b n = refl
 own_two (suc w) a b n = refl
+
+pub two_own : (w : ℕ) (a b : Bool) (n : ℕ) → (w then (a || b) gives n) ≡ ((w then a gives n) then b gives n)
+two_own w a b n = sym (own_two w a b n)
 
 pub or_none : (a b : Bool) → (a || b) ≡ false → (a ≡ false) × (b ≡ false)
 or_none true b h = (h, cc)

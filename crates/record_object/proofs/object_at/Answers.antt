@@ -4,4 +4,4 @@ use Rattle.record_object.proofs.object_at.Goals as goal
 
 pub returns : goal.returns
 unfolding read_object start_at
-returns c = simp (c.kind_by-kind.ensures, c.read_bits.ensures, c.f64_at-start.ensures, c.f32_at-y.ensures, c.f32_at-x.ensures, c.read_sound-sound.ensures)
+returns c = simp (c.kind_by-kind.ensures, ← c.shape_at.ensures, c.f64_at-start.ensures, c.f32_at-y.ensures, c.f32_at-x.ensures, c.read_sound-sound.ensures)

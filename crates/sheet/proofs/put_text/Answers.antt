@@ -9,7 +9,6 @@ use Rattle.chart.specs.Chart.{notes_in, blank}
 use Rattle.sheet.specs.Sheet.{place_at}
 use Rattle.sheet.specs.Fits.{NoteFits}
 use Rattle.sheet.specs.Laws.{length_head, length_note, page_fits, text_head, text_note, text_blank}
-use borrow.Author.Rules.{rules}
 use Rattle.sheet.proofs.put_text.Goals as goal
 use Rattle.sheet.proofs.put_text.Goals.{Else-place-count}
 
@@ -19,10 +18,6 @@ there c = omega (arith, c.if-place-count.false, c.requires.1)
 
 fits : (c : Else-place-count) → NoteFits c.args.columns (get_or (notes_in c.args.chart.now) (place_at c.args.i) blank)
 fits c = c.requires.0.each _ (there c)
-
-pub put_head-requires : goal.put_head-requires
-put_head-requires c =
-    (page_fits c.args.count c.args.i (rw c.requires.1 c.requires.0.few_notes) c.requires.2, search rules)
 
 pub returns-then-line-eq0 : goal.returns-then-line-eq0
 returns-then-line-eq0 c =
@@ -34,10 +29,6 @@ pub returns-then-place-count : goal.returns-then-place-count
 returns-then-place-count c =
     let none = text_blank c.args.columns (notes_in c.args.chart.now) c.args.i c.if-line-eq0.false (omega (arith, c.if-place-count.true, c.requires.1)) in
     rw none (record { value = (sym (add-zero c.args.at), omega arith); s_after = sym (splice_none c.args.s.now c.args.at (omega arith)) })
-
-pub put_note-requires : goal.put_note-requires
-put_note-requires c =
-    (rw c.note_of.ensures (fits (goal.at.put_note-requires c).Else-place-count), search rules)
 
 pub returns : goal.returns
 returns c =

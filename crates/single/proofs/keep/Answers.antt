@@ -12,9 +12,9 @@ use Rattle.single.proofs.keep.Goals as goal
 pub returns-then-notes-count : goal.returns-then-notes-count
 returns-then-notes-count c =
     let a = c.args in
-    full (lt-ltb (length a.notes.now) (note_size * a.p.count) (omega arith)) refl refl
+    full (lt-ltb (length a.notes.now) (note_size * a.made.pattern.count) (omega arith)) refl refl
 
 pub returns : goal.returns
 returns c =
     let a = c.args in
-    kept (le-ltb (length a.notes.now) (note_size * a.p.count) (omega arith)) (c.put_notes.ensures ∙ splice_start a.notes.now _) refl
+    kept (le-ltb (length a.notes.now) (note_size * a.made.pattern.count) (omega arith)) (c.put_notes.ensures ∙ splice_start a.notes.now _) refl

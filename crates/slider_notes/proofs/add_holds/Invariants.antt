@@ -1,4 +1,4 @@
-use Prim.Native.Nat.{◌+◌}
+use Prim.Native.Nat.{ℕ, ◌+◌, ◌-◌}
 use Rattle.random.specs.Play.{on}
 use Rattle.mania.specs.PathObject.{add_holds}
 use Rattle.pattern.specs.Answers.{pattern}
@@ -6,9 +6,6 @@ use Rattle.slider_notes.specs.Words.{of_word}
 use Rattle.slider_notes.proofs.Loops.{At}
 use Rattle.slider_notes.proofs.add_holds.Given as goal
 
-abbrev pub invariant-loop-left : goal.invariant-loop-left
-invariant-loop-left l =
-    At l.g.columns l.initial.words l.words (l.initial.p.count + l.n) l.left l.c l.p (on (add_holds l.g l.barred l.left l.c (pattern of_word l.words l.p)) l.rest) (on (add_holds l.g l.barred l.n l.first (pattern of_word l.initial.words l.initial.p)) l.initial.rest)
-
-abbrev pub decreases-loop-left : goal.decreases-loop-left
-decreases-loop-left l = l.left
+abbrev pub invariant-loop : goal.invariant-loop
+invariant-loop l =
+    At l.g.columns l.initial.words l.words (l.initial.p.count + l.n) (l.n - l.counter) l.c l.p (λ (k : ℕ). on (add_holds l.g l.barred k l.c (pattern of_word l.words l.p)) l.rest) (l.n - l.counter) (on (add_holds l.g l.barred l.n l.first (pattern of_word l.initial.words l.initial.p)) l.initial.rest)

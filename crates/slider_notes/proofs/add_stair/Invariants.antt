@@ -1,4 +1,4 @@
-use Prim.Native.Nat.{◌+◌, ◌*◌, ◌^◌, ◌<◌}
+use Prim.Native.Nat.{ℕ, ◌+◌, ◌-◌, ◌*◌, ◌^◌, ◌<◌}
 use Rattle.random.specs.Play.{on}
 use Rattle.mania.specs.PathObject.{add_stair}
 use Rattle.pattern.specs.Answers.{pattern}
@@ -6,9 +6,6 @@ use Rattle.slider_notes.specs.Words.{of_word}
 use Rattle.slider_notes.proofs.Loops.{At}
 use Rattle.slider_notes.proofs.add_stair.Given as goal
 
-abbrev pub invariant-loop-left : goal.invariant-loop-left
-invariant-loop-left l =
-    (l.time + l.left * l.g.length < 2 ^ 26) × At l.g.columns l.initial.words l.words (l.initial.p.count + l.n) l.left l.c l.p (on (add_stair l.g l.left l.time l.c l.up (pattern of_word l.words l.p)) l.d) (on (add_stair l.g l.n l.from l.first l.rising (pattern of_word l.initial.words l.initial.p)) l.d)
-
-abbrev pub decreases-loop-left : goal.decreases-loop-left
-decreases-loop-left l = l.left
+abbrev pub invariant-loop : goal.invariant-loop
+invariant-loop l =
+    (l.time + (l.n - l.counter) * l.g.length < 2 ^ 26) × At l.g.columns l.initial.words l.words (l.initial.p.count + l.n) (l.n - l.counter) l.c l.p (λ (k : ℕ). on (add_stair l.g k l.time l.c l.up (pattern of_word l.words l.p)) l.d) (l.n - l.counter) (on (add_stair l.g l.n l.from l.first l.rising (pattern of_word l.initial.words l.initial.p)) l.d)

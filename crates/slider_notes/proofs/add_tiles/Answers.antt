@@ -1,61 +1,50 @@
 -- `slider_notes::add_tiles` meets its contract. The invariant is `At`.
 -- Assumes nothing.
-use mathlib.Core.Path.{◌≡◌, refl, sym, ap, ◌∙◌}
+use mathlib.Core.Path.{◌≡◌, sym, ap, ◌∙◌}
 use Prim.Native.Nat.{◌<◌}
 use native.Mathlib.Omega.{arith}
 use Rattle.random.specs.Play.{found, on}
-use Rattle.pattern.specs.Answers.{number}
+use Rattle.random.specs.Answers.{number}
 use Rattle.pattern.specs.Laws.Searches.{find_on_deck}
-use Rattle.slider_notes.proofs.Words.{ahead, less_one}
-use Rattle.slider_notes.proofs.Loops.{seek, tiles_more, tiles_stop, tiles_end}
+use Rattle.slider_notes.proofs.Words.{all, ahead, less_one, turn}
+use Rattle.slider_notes.proofs.Loops.{start, seek, tiles_more, tiles_stop, tiles_end}
+use Rattle.slider_notes.proofs.Ends.{stops}
 use Rattle.slider_notes.proofs.add_tiles.Goals as goal
-use Rattle.slider_notes.proofs.add_tiles.Goals.{In-Given}
+use Rattle.slider_notes.proofs.add_tiles.Goals.{In_ok-e}
 
-pub loop-left-init : goal.loop-left-init
-loop-left-init c = (c.requires.3, record { size = refl; room = omega arith; deck = c.requires.2; goes = refl })
+pub loop-init : goal.loop-init
+loop-init c = (rw (all c.args.n) c.requires.0.1, start _ _ _ _ _ _ _ _ (omega arith) c.requires.0.0.2)
 
 -- what the search gave, in the rule's words
-got : (c : In-Given)
-    → let a = c.args in let l = c.loop-left in
-    on (seek a.g l.c l.p.mask) l.rest ≡ found c.in-Given.e c.in-Given.next
-got c = sym c.find_column.ensures ∙ ap number c.in-Given.is
+got : (c : In_ok-e)
+    → let a = c.args in let l = c.loop in
+    on (seek a.g l.c l.p.mask) l.rest ≡ found c.in_ok-e.e c.in_ok-e.next
+got c = sym c.find_column.ensures ∙ ap number c.in_ok-e.was
 
-deck : (c : In-Given) → c.in-Given.e < c.args.g.columns
-deck c = find_on_deck _ c.requires.0 _ _ _ _ _ c.loop-left.invariant.1.deck (got c)
+deck : (c : In_ok-e) → c.in_ok-e.e < c.args.g.columns
+deck c = find_on_deck _ c.requires.0.0.0 _ _ _ _ _ c.loop.invariant.1.deck (got c)
 
 pub put_slider_note-p-requires : goal.put_slider_note-p-requires
-put_slider_note-p-requires c = omega (arith, deck (goal.at.put_slider_note-p-requires c).In-Given, c.requires)
+put_slider_note-p-requires c = omega (arith, deck (goal.at.put_slider_note-p-requires c).In_ok-e, c.requires)
 
-pub overflow_add-time : goal.overflow_add-time
-overflow_add-time c =
-    let k = ahead _ _ _ _ c.loop-left-test.true c.loop-left.invariant.0 in
-    omega arith
-
-pub loop-left-preserved : goal.loop-left-preserved
-loop-left-preserved c = (
-  ahead _ _ _ _ c.loop-left-test.true c.loop-left.invariant.0,
+pub loop-preserved : goal.loop-preserved
+loop-preserved c = (
+  ahead _ _ _ _ _ (turn _ _ c.loop-test.true) c.loop.invariant.0,
   record {
-    size = c.put_slider_note-p.auto.words ∙ c.loop-left.invariant.1.size;
-    room = less_one _ _ _ _ c.put_slider_note-p.ensures.more c.loop-left-test.true c.loop-left.invariant.1.room;
-    deck = deck (goal.at.loop-left-preserved c).In-Given;
-    goes = sym (tiles_more _ _ _ _ _ _ _ _ c.loop-left-test.true _ _ (got (goal.at.loop-left-preserved c).In-Given) (deck (goal.at.loop-left-preserved c).In-Given) _ _ c.put_slider_note-p.ensures) ∙ c.loop-left.invariant.1.goes;
+    size = c.put_slider_note-p.auto.words ∙ c.loop.invariant.1.size;
+    room = less_one _ _ _ _ _ c.put_slider_note-p.ensures.more (turn _ _ c.loop-test.true) c.loop.invariant.1.room;
+    deck = deck (goal.at.loop-preserved c).In_ok-e;
+    goes = sym (tiles_more _ _ _ _ _ _ _ _ _ (turn _ _ c.loop-test.true) _ _ (got (goal.at.loop-preserved c).In_ok-e) (deck (goal.at.loop-preserved c).In_ok-e) _ _ c.put_slider_note-p.ensures) ∙ c.loop.invariant.1.goes;
   },
 )
 
-pub shape_of-words-in-Refused : goal.shape_of-words-in-Refused
-shape_of-words-in-Refused c = c.loop-left.invariant.1.size
-
-pub returns-in-Refused : goal.returns-in-Refused
-returns-in-Refused c = record {
-  says = sym (tiles_stop _ _ _ _ _ _ _ _ c.loop-left-test.true _ _ (sym c.find_column.ensures ∙ ap number c.in-Refused.is)) ∙ c.loop-left.invariant.1.goes;
-  few = omega arith;
-}
-
-pub shape_of-words : goal.shape_of-words
-shape_of-words c = c.loop-left.invariant.1.size
+pub returns-in_err-e : goal.returns-in_err-e
+returns-in_err-e c =
+    stops _ _ _ c.from_residual.ensures.1 _ _
+    (sym c.loop.invariant.1.goes ∙ tiles_stop _ _ _ _ _ _ _ _ _ (turn _ _ c.loop-test.true) _ _ (sym c.find_column.ensures ∙ ap number c.in_err-e.was))
 
 pub returns : goal.returns
 returns c = record {
-  says = sym (tiles_end _ _ _ _ _ _ _ _ c.loop-left-test.false) ∙ c.loop-left.invariant.1.goes;
+  says = sym (tiles_end _ _ _ _ _ _ _ _ (omega (arith, c.loop-test.false))) ∙ c.loop.invariant.1.goes;
   few = omega arith;
 }

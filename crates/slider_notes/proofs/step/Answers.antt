@@ -1,9 +1,6 @@
 -- `slider_notes::step` meets its contract. Assumes nothing.
 use Rattle.slider_notes.proofs.step.Goals as goal
 
-pub overflow_sub-result : goal.overflow_sub-result
-overflow_sub-result c = c.requires.1 c.if-up.false
-
 pub returns-then-up : goal.returns-then-up
 returns-then-up c = simp c.if-up.true
 

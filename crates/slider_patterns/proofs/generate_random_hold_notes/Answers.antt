@@ -1,79 +1,82 @@
 -- `slider_patterns::generate_random_hold_notes` meets its contract: a column, the holds off the previous pattern, and those that come anywhere. Assumes
 -- nothing.
-use mathlib.Core.Path.{◌≡◌, sym, ap, subst, ◌∙◌}
-use Prim.Native.Nat.{ℕ, ◌+◌, ◌≤◌, ◌<◌, min}
-use native.Mathlib.Omega.{arith}
-use native.Mathlib.Nat.{min-le_right}
-use Rattle.slider_patterns.proofs.Rules.{holds_stop, off_stop, over_stop, holds_found}
-use Rattle.slider_notes.specs.Words.{of_word}
-use Rattle.pattern.specs.Laws.Words.{empty_is}
-use Rattle.slider_patterns.proofs.Bounds.{stops, fits_kept}
-use Rattle.slider_notes.specs.Answers.{reached, many', at}
-use Rattle.slider_notes.specs.declared.Reached.{Reached}
-use Rattle.pattern.specs.Answers.{number}
+use Rattle.std.proofs.Common.{◌≡◌, ℕ, ◌+◌, ◌≤◌, ◌<◌, min, sym, ap, subst, ◌∙◌, arith}
+use Rattle.std.specs.Prelude.{Result}
+use Rattle.std.proofs.Math.Nat.{min-le_right}
+use Rattle.random.specs.Answers.{number}
+use Rattle.random.specs.declared.Draws.{Draws}
+use Rattle.random.specs.declared.Refused.{Refused}
+use Rattle.mania.specs.PathObject.{any_column, generate_random_hold_notes}
+use Rattle.mania.specs.PatternGenerator.{random_start, get_random_column}
 use Rattle.pattern.specs.Laws.Searches.{any_on_deck}
+use Rattle.pattern.specs.Laws.Words.{empty_is}
+use Rattle.slider_notes.specs.Answers.{reached, many', at}
+use Rattle.slider_notes.specs.Words.{of_word}
+use Rattle.slider_notes.specs.declared.Reached.{Reached}
+use Rattle.slider_notes.proofs.Ends.{stops, leaves}
+use Rattle.slider_patterns.proofs.Bounds.{fits_kept}
+use Rattle.slider_patterns.proofs.Rules.{off_stop, over_stop, holds_found}
 use Rattle.slider_patterns.proofs.generate_random_hold_notes.Goals as goal
 
 -- at most n
 least-le : (k m n : ℕ) → k ≡ min m n → n ≤ 6 → k ≤ 6
 least-le k m n e h = omega (arith, min-le_right m n)
 
+pub returns-in_err-c : goal.returns-in_err-c
+unfolding generate_random_hold_notes any_column
+returns-in_err-c c =
+    let g = c.args.g in
+    leaves _ (get_random_column (random_start g.columns) g.columns) _ _ _ _ _ _ _ c.any_column.ensures c.in_err-c.was c.from_residual.ensures.1
+
 pub add_holds-requires : goal.add_holds-requires
 add_holds-requires c =
     let fit = c.requires.0 in
     let off = least-le _ _ _ c.holds_off-off.ensures c.requires.1 in (
-      omega (arith, fit.low),
-      fit.high,
-      any_on_deck _ (omega (arith, fit.low)) _ _ _ (sym c.any_column.ensures ∙ ap number c.in-Given.is),
+      (omega (arith, fit.low), fit.high, any_on_deck _ (omega (arith, fit.low)) _ _ _ (sym c.any_column.ensures ∙ ap number c.in_ok-c.was)),
       omega (arith, fit.times),
       fit.ends,
       omega (arith, fit.room, off),
     )
 
-pub add_holds-requires-in-Notes : goal.add_holds-requires-in-Notes
-add_holds-requires-in-Notes c =
+pub returns-in_err-some : goal.returns-in_err-some
+returns-in_err-some c =
+    stops _ _ _ c.from_residual-in_err-some.ensures.1 _ _
+    (off_stop _ _ _ _ _ (sym c.any_column.ensures ∙ ap number c.in_ok-c.was) _ (empty_is of_word _) _ _ c.holds_off-off.ensures
+    c.holds_over-over.ensures.0 _ _ (sym c.add_holds.ensures.says ∙ ap (reached c.add_holds.new.words) c.in_err-some.was))
+
+pub add_holds-requires-2 : goal.add_holds-requires-2
+add_holds-requires-2 c =
     let fit = fits_kept _ _ c.requires.0 _ c.add_holds.auto.words in
-    let r = c.in-Notes.is in
+    let r = c.in_ok-some.was in
     let off = least-le _ _ _ c.holds_off-off.ensures c.requires.1 in
-    let few = subst (λ (x : Reached). many' x ≤ 0 + c.holds_off-off.result) r c.add_holds.ensures.few in (
-      omega (arith, fit.low),
-      fit.high,
-      subst (λ (x : Reached). at x < c.args.g.columns) r c.add_holds.ensures.deck,
+    let few = subst (λ (x : Result (Reached × Draws) Refused). many' x ≤ 0 + c.holds_off-off.result) r c.add_holds.ensures.few in (
+      (omega (arith, fit.low), fit.high, subst (λ (x : Result (Reached × Draws) Refused). at x < c.args.g.columns) r c.add_holds.ensures.deck),
       omega (arith, fit.times),
       fit.ends,
       omega (arith, fit.room, off, few, c.holds_over-over.ensures.1),
     )
 
-pub returns-in-Notes-add_holds : goal.returns-in-Notes-add_holds
-returns-in-Notes-add_holds c =
+pub returns-in_err-all : goal.returns-in_err-all
+returns-in_err-all c =
+    stops _ _ _ c.from_residual-in_err-all.ensures.1 _ _
+    (over_stop _ _ _ _ _ (sym c.any_column.ensures ∙ ap number c.in_ok-c.was) _ (empty_is of_word _) _ _ c.holds_off-off.ensures
+    c.holds_over-over.ensures.0 _ _ _ (sym c.add_holds.ensures.says ∙ ap (reached c.add_holds.new.words) c.in_ok-some.was) _ _
+    (sym c.add_holds-2.ensures.says ∙ ap (reached c.add_holds-2.new.words) c.in_err-all.was))
+
+pub returns : goal.returns
+returns c =
     record {
       says =
           sym
-          (holds_found _ _ _ _ _ (sym c.any_column.ensures ∙ ap number c.in-Given.is) _ (empty_is of_word _) _ _ c.holds_off-off.ensures
-          c.holds_over-over.ensures.0 _ _ _ (sym c.add_holds.ensures.says ∙ ap (reached c.add_holds.new.words) c.in-Notes.is) _ _ _
-          (sym c.add_holds-in-Notes.ensures.says ∙ ap (reached c.add_holds-in-Notes.new.words) c.in-Notes-add_holds.is));
+          (holds_found _ _ _ _ _ (sym c.any_column.ensures ∙ ap number c.in_ok-c.was) _ (empty_is of_word _) _ _ c.holds_off-off.ensures
+          c.holds_over-over.ensures.0 _ _ _ (sym c.add_holds.ensures.says ∙ ap (reached c.add_holds.new.words) c.in_ok-some.was) _ _ _
+          (sym c.add_holds-2.ensures.says ∙ ap (reached c.add_holds-2.new.words) c.in_ok-all.was));
       few =
           omega (
             arith,
-            subst (λ (x : Reached). many' x ≤ c.in-Notes.p.count + c.holds_over-over.result) c.in-Notes-add_holds.is c.add_holds-in-Notes.ensures.few,
-            subst (λ (x : Reached). many' x ≤ 0 + c.holds_off-off.result) c.in-Notes.is c.add_holds.ensures.few,
+            subst (λ (x : Result (Reached × Draws) Refused). many' x ≤ c.in_ok-some.some.pattern.count + c.holds_over-over.result) c.in_ok-all.was c.add_holds-2.ensures.few,
+            subst (λ (x : Result (Reached × Draws) Refused). many' x ≤ 0 + c.holds_off-off.result) c.in_ok-some.was c.add_holds.ensures.few,
             c.holds_over-over.ensures.1,
             least-le _ _ _ c.holds_off-off.ensures c.requires.1,
           );
     }
-
-pub returns-in-Refused-add_holds-2 : goal.returns-in-Refused-add_holds-2
-returns-in-Refused-add_holds-2 c =
-    stops _ _ _ _ _
-    (over_stop _ _ _ _ _ (sym c.any_column.ensures ∙ ap number c.in-Given.is) _ (empty_is of_word _) _ _ c.holds_off-off.ensures
-    c.holds_over-over.ensures.0 _ _ _ (sym c.add_holds.ensures.says ∙ ap (reached c.add_holds.new.words) c.in-Notes.is) _ _
-    (sym c.add_holds-in-Notes.ensures.says ∙ ap (reached c.add_holds-in-Notes.new.words) c.in-Refused-add_holds-2.is))
-
-pub returns-in-Refused-add_holds : goal.returns-in-Refused-add_holds
-returns-in-Refused-add_holds c =
-    stops _ _ _ _ _
-    (off_stop _ _ _ _ _ (sym c.any_column.ensures ∙ ap number c.in-Given.is) _ (empty_is of_word _) _ _ c.holds_off-off.ensures
-    c.holds_over-over.ensures.0 _ _ (sym c.add_holds.ensures.says ∙ ap (reached c.add_holds.new.words) c.in-Refused-add_holds.is))
-
-pub returns-in-Refused : goal.returns-in-Refused
-returns-in-Refused c = stops _ _ _ _ _ (holds_stop _ _ _ _ _ (sym c.any_column.ensures ∙ ap number c.in-Refused.is))

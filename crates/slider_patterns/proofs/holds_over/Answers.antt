@@ -13,8 +13,5 @@ overflow_sub-deck c =
 pub overflow_add-all : goal.overflow_add-all
 overflow_add-all c = omega (arith, c.column_count.ensures.0, ones-le 16 c.args.mask c.ranges.mask.fits)
 
-pub returns-then-all-deck : goal.returns-then-all-deck
-returns-then-all-deck c = (search rules, omega arith)
-
 pub returns : goal.returns
 returns c = (search rules, omega (arith, ones-le 16 c.args.mask c.ranges.mask.fits))

@@ -1,13 +1,17 @@
 -- `slider_times::distance_of` meets its contract. Assumes nothing.
-use Rattle.std.proofs.Common.{sym, ap}
+use Rattle.std.specs.Prelude.{◌≡◌, refl, Option, None, Some, Float}
+use Rattle.std.specs.Option.{unwrap_or}
+use Rattle.std.proofs.Common.{◌∙◌}
 use lib.Ieee.{round, of_bits}
+use Rattle.mania.specs.Steps.{double}
 use Rattle.mania.specs.PathObject.{distance_of}
 use Rattle.slider_times.proofs.distance_of.Goals as goal
 
-pub returns-in-Missing : goal.returns-in-Missing
-unfolding distance_of round of_bits
-returns-in-Missing c = sym (ap distance_of c.in-Missing.is)
+given : (distance : Option Float) → unwrap_or distance (double 0 1) ≡ distance_of distance
+unfolding distance_of
+given None = refl
+given (Some d) = refl
 
-pub returns-in-Given : goal.returns-in-Given
-unfolding distance_of round of_bits
-returns-in-Given c = sym (ap distance_of c.in-Given.is)
+pub returns : goal.returns
+unfolding round of_bits
+returns c = c.unwrap_or.ensures ∙ given c.args.distance

@@ -1,13 +1,14 @@
 -- `slider_times::head_sound` meets its contract. Assumes nothing.
-use Rattle.std.proofs.Common.{sym, ap}
-use Rattle.model.specs.declared.NodeSound.{NodeSound}
+use Rattle.std.specs.Prelude.{◌≡◌, refl, ℕ, Option, None, Some}
+use Rattle.std.specs.Option.{unwrap_or}
+use Rattle.std.proofs.Common.{◌∙◌}
 use Rattle.mania.specs.PathObject.{head_sound}
 use Rattle.slider_times.proofs.head_sound.Goals as goal
 
-pub returns-in-Missing : goal.returns-in-Missing
+given : (node : Option ℕ) (sound : ℕ) → unwrap_or node sound ≡ head_sound node sound
 unfolding head_sound
-returns-in-Missing c = sym (ap (λ (n : NodeSound). head_sound n c.args.sound) c.in-Missing.is)
+given None sound = refl
+given (Some s) sound = refl
 
-pub returns-in-Given : goal.returns-in-Given
-unfolding head_sound
-returns-in-Given c = sym (ap (λ (n : NodeSound). head_sound n c.args.sound) c.in-Given.is)
+pub returns : goal.returns
+returns c = c.unwrap_or.ensures ∙ given c.args.node c.args.sound

@@ -1,4 +1,5 @@
 -- `text::digit_code` meets its contract: the branch is the test of `digit`. Assumes nothing.
+use native.Mathlib.Omega.{arith}
 use borrow.Author.Tests.{lt-ltb, le-ltb}
 use Rattle.text.specs.Text.{digit}
 use Rattle.text.proofs.digit_code.Goals as goal
@@ -9,4 +10,4 @@ returns-then-d-lt10 c = rw (lt-ltb _ 10 c.if-d-lt10.true)
 
 pub returns-else-d-lt10 : goal.returns-else-d-lt10
 unfolding digit
-returns-else-d-lt10 c = rw (le-ltb _ 10 c.if-d-lt10.false)
+returns-else-d-lt10 c = rw (le-ltb _ 10 c.if-d-lt10.false) (omega arith)

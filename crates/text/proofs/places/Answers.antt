@@ -1,32 +1,12 @@
--- `text::places` meets its contract. The invariant: n has k - 1 digits more than rest, with the same bound on their number. The measure is rest.
--- Assumes nothing.
-use mathlib.Core.Path.{◌≡◌}
-use Prim.Native.Nat.{◌+◌, ◌-◌}
-use native.Mathlib.Omega.{arith}
-use lib.Dec.{ltb}
-use lib.ListN.{length}
-use Rattle.text.specs.Text.{places, decimal}
-use Rattle.text.specs.Laws.{places_one, places_more, length_digits, decimal_most}
+-- `text::places` meets its contract: the whole logarithm is one less (`length_decimal`). Assumes nothing.
+use Rattle.std.proofs.Common.{◌^◌, ◌<◌, suc, pow-suc, arith}
+use Rattle.text.specs.Laws.{length_decimal}
 use Rattle.text.proofs.places.Goals as goal
 
-pub loop-rest-init : goal.loop-rest-init
-loop-rest-init c =
-    let same : c.args.n + 1 - 1 ≡ c.args.n = omega arith in
-    (omega arith, (omega arith, rw same))
-
-pub loop-rest-preserved : goal.loop-rest-preserved
-loop-rest-preserved c =
-    let n = c.args.n in
-    let l = c.loop-rest in
-    let same : n + 1 - l.k - 1 ≡ n + 1 - (l.k + 1) = omega arith in
-    let more = rw same at (places_more (n + 1 - l.k) l.rest (omega arith) (omega arith)) in
-    (omega arith, (omega arith, omega (arith, more, l.invariant.1.1)))
-
 pub returns : goal.returns
-unfolding decimal
 returns c =
     let n = c.args.n in
-    let l = c.loop-rest in
-    let size : l.k ≡ length (decimal n) =
-    rw (length_digits 10 (places n (ltb n 10) n) n) (omega (arith, l.invariant.1.1, places_one (n + 1 - l.k) l.rest (omega arith))) in
-    (size, omega (arith, size, decimal_most n (omega arith)))
+    let k = c.ilog10.result in
+    let low = rw c.max.ensures at c.ilog10.ensures.power_le in
+    let high : n < 10 ^ suc k = rw (pow-suc 10 k) (omega arith) in
+    omega (arith, length_decimal n k low high)

@@ -6,4 +6,4 @@ use Rattle.walk.proofs.beginning.Goals as goal
 
 pub returns : goal.returns
 unfolding walk_of beginning round of_bits
-returns c = (c.new-density.ensures.0, rw c.new-density.ensures.1)
+returns c = rw c.new-density.ensures

@@ -5,4 +5,4 @@ use Rattle.walk.proofs.meet.Goals as goal
 
 pub returns : goal.returns
 unfolding queued
-returns c = record { held = c.meets-density.ensures.0; density = c.meets-density.ensures.1; facts = refl }
+returns c = record { density = c.meets-density.ensures; facts = refl }

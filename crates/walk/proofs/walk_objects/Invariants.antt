@@ -1,5 +1,4 @@
 use mathlib.Core.Path.{◌≡◌}
-use Prim.Native.Nat.{◌-◌}
 use lib.ListN.{length}
 use Rattle.walk.specs.Steps.{InForceOf}
 use Rattle.walk.proofs.Loop.{At}
@@ -8,6 +7,3 @@ use Rattle.walk.proofs.walk_objects.Given as goal
 abbrev pub invariant-loop-i : goal.invariant-loop-i
 invariant-loop-i l =
     At l.points l.part l.initial.chart l.chart l.g l.at l.count l.initial.rest l.w l.here l.rest l.i × InForceOf l.points l.g l.c × (length l.chart ≡ length l.initial.chart) × (length l.words ≡ length l.initial.words) × (length l.spare ≡ length l.initial.spare)
-
-abbrev pub decreases-loop-i : goal.decreases-loop-i
-decreases-loop-i l = l.count - l.i

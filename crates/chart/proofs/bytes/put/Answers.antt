@@ -1,11 +1,11 @@
--- `chart::bytes::put` meets its contract. The invariant: the bytes from the i-th on are stored, and those before it are the bytes of x (`Stored`). The measure is i.
+-- `chart::bytes::put` meets its contract. The invariant: the bytes from the i-th on are stored, and those before it are the bytes of x (`Stored`).
 -- Assumes nothing.
-use mathlib.Core.Path.{◌≡◌, refl, sym, ap, ◌∙◌}
+use mathlib.Core.Path.{◌≡◌, sym, ap, ◌∙◌}
 use mathlib.Core.List.{List, [], ◌∷◌, ◌++◌, append_assoc, append-nil}
 use Prim.Native.Nat.{ℕ, suc, ◌+◌, ◌-◌, ◌/◌, ◌%◌, ◌≤◌, ◌<◌}
 use native.Mathlib.Nat.{add-zero}
 use native.Mathlib.Omega.{arith}
-use lib.ListN.{length, set, length-set}
+use lib.ListN.{length, set}
 use borrow.Author.Rules.{rules}
 use Rattle.chart.specs.Bytes.{be, splice}
 use Rattle.chart.specs.Laws.Bytes.{be_suc, be_zero, splice_none, splice_before}
@@ -35,19 +35,14 @@ stored-all s₀ at size value s x i e st =
     rw bytes (st.is ∙ rw (e, add-zero at))
 
 pub loop-i-init : goal.loop-i-init
-loop-i-init c = let a = c.args in (search rules, (refl, stored-none a.s.now a.at a.size a.value c.requires))
+loop-i-init c = let a = c.args in stored-none a.s.now a.at a.size a.value c.requires
 
 pub loop-i-preserved : goal.loop-i-preserved
 loop-i-preserved c =
-    let a = c.args in (
-      search rules,
-      (
-        simp length-set c.loop-i.invariant.1.0,
-        stored_more a.s.now a.at a.size a.value c.loop-i.s c.loop-i.x c.loop-i.i (search rules) (search rules) (search rules) c.loop-i.invariant.1.1,
-      ),
-    )
+    let a = c.args in
+    stored_more a.s.now a.at a.size a.value c.loop-i.s c.loop-i.x c.loop-i.i (search rules) (search rules) (search rules) c.loop-i.invariant
 
 pub returns : goal.returns
 returns c =
     let a = c.args in
-    stored-all a.s.now a.at a.size a.value c.loop-i.s c.loop-i.x c.loop-i.i (omega arith) c.loop-i.invariant.1.1
+    stored-all a.s.now a.at a.size a.value c.loop-i.s c.loop-i.x c.loop-i.i (omega arith) c.loop-i.invariant

@@ -1,6 +1,6 @@
 use mathlib.Core.Path.{◌≡◌}
 use mathlib.Core.List.{List, ◌++◌}
-use Prim.Native.Nat.{ℕ, ◌+◌, ◌-◌, ◌≤◌}
+use Prim.Native.Nat.{ℕ, ◌+◌, ◌-◌}
 use lib.ListN.{length}
 use Rattle.chart.specs.Bytes.{be, splice}
 use Rattle.chart.proofs.bytes.put.Given as goal
@@ -12,7 +12,4 @@ pub record Stored (s₀ : List ℕ) (at size value : ℕ) (s : List ℕ) (x i : 
   pub is : s ≡ splice s₀ (at + i) tail
 
 abbrev pub invariant-loop-i : goal.invariant-loop-i
-invariant-loop-i l = (l.i ≤ l.size) × ((length l.s ≡ length l.initial.s) × Stored l.initial.s l.at l.size l.value l.s l.x l.i)
-
-abbrev pub decreases-loop-i : goal.decreases-loop-i
-decreases-loop-i l = l.i
+invariant-loop-i l = Stored l.initial.s l.at l.size l.value l.s l.x l.i

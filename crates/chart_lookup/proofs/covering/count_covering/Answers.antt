@@ -1,4 +1,4 @@
--- `chart_lookup::covering::count_covering` meets its contract. The invariant: those found, and those among the notes from the i-th on, are all. The measure is the number of notes left.
+-- `chart_lookup::covering::count_covering` meets its contract. The invariant: those found, and those among the notes from the i-th on, are all.
 -- Assumes nothing.
 use mathlib.Core.Path.{◌≡◌, sym, ap, ◌∙◌}
 use mathlib.Core.List.{List}
@@ -15,7 +15,7 @@ use Rattle.chart_lookup.proofs.covering.count_covering.Goals as goal
 use Rattle.chart_lookup.proofs.covering.count_covering.Goals.{then-is_covering, else-is_covering}
 
 pub loop-i-init : goal.loop-i-init
-loop-i-init c = (c.requires.0.order, search rules, zero-add _)
+loop-i-init c = (search rules, zero-add _)
 
 pub is_covering-requires : goal.is_covering-requires
 is_covering-requires c = (omega (arith, c.requires.0.within, c.loop-i-test.true), c.requires.1)
@@ -28,14 +28,14 @@ loop-i-preserved c = let ns = notes_in c.args.chart.now in
     elim c.if-is_covering.branch [
       | then-is_covering w ↦
           let next = ap size (places_yes p ns c.loop-i.i more (sym c.is_covering.ensures ∙ w.if-is_covering.true)) in
-          (omega arith, omega (arith, c.loop-i.invariant.1), omega (arith, next, c.loop-i.invariant.2))
+          (omega (arith, c.loop-i.invariant.0), omega (arith, next, c.loop-i.invariant.1))
       | else-is_covering w ↦
           let next = ap size (places_no p ns c.loop-i.i more (sym c.is_covering.ensures ∙ w.if-is_covering.false)) in
-          (omega arith, omega (arith, c.loop-i.invariant.1), omega (arith, next, c.loop-i.invariant.2))
+          (omega (arith, c.loop-i.invariant.0), omega (arith, next, c.loop-i.invariant.1))
     ]
 
 pub returns : goal.returns
 returns c = let ns = notes_in c.args.chart.now in
     let size : List ℕ → ℕ = length in
-    let at_end : c.loop-i.i ≡ c.args.end = omega (arith, c.loop-i.invariant.0, c.loop-i-test.false) in
-    omega (arith, c.loop-i.invariant.2, ap size (places_none (wanted (Covering c.args.at)) ns c.loop-i.i (omega (arith, c.requires.0.within)) (λ j h k. c.requires.0.none_after j (omega arith) k)))
+    let at_end : c.loop-i.i ≡ c.args.end = omega (arith, c.requires.0.order, c.loop-i.auto.i, c.loop-i-test.false) in
+    omega (arith, c.loop-i.invariant.1, ap size (places_none (wanted (Covering c.args.at)) ns c.loop-i.i (omega (arith, c.requires.0.within)) (λ j h k. c.requires.0.none_after j (omega arith) k)))

@@ -1,11 +1,8 @@
 use mathlib.Core.Path.{◌≡◌}
-use Prim.Native.Nat.{◌+◌, ◌-◌, ◌≤◌}
+use Prim.Native.Nat.{◌+◌, ◌≤◌}
 use lib.ListN.{length}
 use Rattle.chart_lookup.specs.Search.{held_from}
 use Rattle.chart_lookup.proofs.covering.count_covering.Given as goal
 
 abbrev pub invariant-loop-i : goal.invariant-loop-i
-invariant-loop-i l = (l.i ≤ l.end) × (l.found ≤ l.i) × (l.found + length (held_from l.at l.i l.chart) ≡ length (held_from l.at l.first l.chart))
-
-abbrev pub decreases-loop-i : goal.decreases-loop-i
-decreases-loop-i l = l.end - l.i
+invariant-loop-i l = (l.found ≤ l.i) × (l.found + length (held_from l.at l.i l.chart) ≡ length (held_from l.at l.first l.chart))

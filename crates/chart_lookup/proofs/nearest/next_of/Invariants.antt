@@ -1,11 +1,8 @@
 use mathlib.Core.Path.{◌≡◌}
-use Prim.Native.Nat.{ℕ, ◌-◌, ◌≤◌, ◌<◌}
-use lib.ListN.{length, get_or}
+use Prim.Native.Nat.{ℕ, ◌≤◌, ◌<◌}
+use lib.ListN.{get_or}
 use Rattle.chart.specs.Chart.{notes_in, blank}
 use Rattle.chart_lookup.proofs.nearest.next_of.Given as goal
 
 abbrev pub invariant-loop-i : goal.invariant-loop-i
-invariant-loop-i l = (l.from ≤ l.i) × (l.i ≤ length (notes_in l.chart)) × ((j : ℕ) → l.from ≤ j → j < l.i → (get_or (notes_in l.chart) j blank).column ≡ l.column → ⊥)
-
-abbrev pub decreases-loop-i : goal.decreases-loop-i
-decreases-loop-i l = l.count - l.i
+invariant-loop-i l = ((j : ℕ) → l.from ≤ j → j < l.i → (get_or (notes_in l.chart) j blank).column ≡ l.column → ⊥)

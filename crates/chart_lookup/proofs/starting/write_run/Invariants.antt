@@ -1,10 +1,7 @@
-use Prim.Native.Nat.{◌+◌, ◌-◌, ◌≤◌}
+use Prim.Native.Nat.{◌+◌, ◌-◌}
 use Rattle.chart_lookup.specs.Search.{run}
 use Rattle.chart_lookup.specs.Laws.Places.{Wrote}
 use Rattle.chart_lookup.proofs.starting.write_run.Given as goal
 
 abbrev pub invariant-loop-k : goal.invariant-loop-k
-invariant-loop-k l = (l.k ≤ l.found) × Wrote (run l.first l.found) l.list l.initial.list l.k (run (l.first + l.k) (l.found - l.k))
-
-abbrev pub decreases-loop-k : goal.decreases-loop-k
-decreases-loop-k l = l.found - l.k
+invariant-loop-k l = Wrote (run l.first l.found) l.list l.initial.list l.k (run (l.first + l.k) (l.found - l.k))

@@ -1,24 +1,24 @@
 -- `exact_times::moments::covers` meets its contract: by the pattern of an instant from 0 on, and outright for one before.
 -- Assumes nothing.
+use Rattle.std.specs.Prelude.{Some}
 use borrow.Author.Rules.{rules}
 use mathlib.Core.Path.{◌∙◌}
-use Rattle.exact_times.specs.declared.moments.Moment.TheVariants.{At}
 use Rattle.exact_times.specs.Instants.{Tells}
 use Rattle.exact_times.specs.Laws.Instants.{before_covers}
 use Rattle.exact_times.proofs.moments.covers.Goals as goal
-use Rattle.exact_times.proofs.moments.covers.Goals.{In-At}
+use Rattle.exact_times.proofs.moments.covers.Goals.{In-Some}
 
-told : (c : In-At) → Tells c.args.t (At c.in-At.b)
-told c = rw c.in-At.is at c.moment_of.ensures
+told : (c : In-Some) → Tells c.args.t (Some c.in-Some.b)
+told c = rw c.in-Some.is at c.moment_of.ensures
 
 pub covers_at-requires : goal.covers_at-requires
 unfolding Tells
-covers_at-requires c = (search rules, search rules, (told (goal.at.covers_at-requires c).In-At).0)
+covers_at-requires c = (search rules, search rules, (told (goal.at.covers_at-requires c).In-Some).0)
 
-pub returns-in-At : goal.returns-in-At
+pub returns-in-Some : goal.returns-in-Some
 unfolding Tells
-returns-in-At c = c.covers_at.ensures ∙ rw (told (goal.at.returns-in-At c).In-At).1
+returns-in-Some c = c.covers_at.ensures ∙ rw (told (goal.at.returns-in-Some c).In-Some).1
 
-pub returns-in-Before : goal.returns-in-Before
+pub returns-in-None : goal.returns-in-None
 unfolding Tells
-returns-in-Before c = before_covers _ _ _ (rw c.in-Before.is at c.moment_of.ensures)
+returns-in-None c = before_covers _ _ _ (rw c.in-None.is at c.moment_of.ensures)

@@ -8,8 +8,8 @@ use lib.Ieee.{binary64}
 use borrow.Author.Tests.{lt-ltb, le-ltb}
 use Rattle.floats.specs.Laws.Ranges.{no_nan}
 use Rattle.chart.specs.Laws.Times.{ticks_mono}
-use Rattle.exact_times.specs.Compare.{is_less}
-use Rattle.exact_times.specs.Laws.Orders.{less_ltb}
+use Rattle.std.specs.Ordering.{is_ge}
+use Rattle.exact_times.specs.Laws.Orders.{from_ltb}
 use Rattle.exact_times.specs.Laws.Instants.{too_early, by_the_end, ticks_le}
 use Rattle.exact_times.specs.Laws.Rounded.{sum_under, sum_over}
 use Rattle.exact_times.proofs.moments.covers_at.Goals as goal
@@ -33,4 +33,4 @@ pub returns-then-at-end : goal.returns-then-at-end
 returns-then-at-end c = ap not (sym (le-ltb _ _ (le_of_lt (sum_over _ _ _ c.requires.0 c.requires.1 c.requires.2 c.if-at-end.true)))) ∙ by_the_end _ _ _ (ticks_le _ _ c.if-t-start.false c.requires.2)
 
 pub returns : goal.returns
-returns c = ap not (c.is_less.ensures ∙ ap is_less c.sum_order.ensures ∙ less_ltb _ _) ∙ by_the_end _ _ _ (ticks_le _ _ c.if-t-start.false c.requires.2)
+returns c = c.is_ge.ensures ∙ ap is_ge c.sum_order.ensures ∙ from_ltb _ _ ∙ by_the_end _ _ _ (ticks_le _ _ c.if-t-start.false c.requires.2)

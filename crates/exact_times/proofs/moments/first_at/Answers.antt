@@ -1,10 +1,13 @@
 -- `exact_times::moments::first_at` meets its contract: a law for each case of the moment.
 -- Assumes nothing.
+use Rattle.std.specs.Prelude.{ℕ, Float, Option, Some, None, unwrap_or}
+use Rattle.exact_times.specs.Instants.{Tells, FirstAt}
 use Rattle.exact_times.specs.Laws.Instants.{at_first, before_first}
 use Rattle.exact_times.proofs.moments.first_at.Goals as goal
 
-pub returns-in-At : goal.returns-in-At
-returns-in-At c = at_first _ _ (rw c.in-At.is at c.moment_of.ensures)
+first : (t : Float) (m : Option ℕ) → Tells t m → FirstAt t (unwrap_or m 0)
+first t (Some b) h = at_first _ b h
+first t None h = before_first _ h
 
-pub returns-in-Before : goal.returns-in-Before
-returns-in-Before c = before_first _ (rw c.in-Before.is at c.moment_of.ensures)
+pub returns : goal.returns
+returns c = rw c.unwrap_or.ensures (first c.args.t c.moment_of.result c.moment_of.ensures)

@@ -2,7 +2,7 @@
 -- Assumes nothing.
 use mathlib.Core.Path.{ap, ◌∙◌}
 use Rattle.chart.specs.Laws.Times.{ticks_mono}
-use Rattle.exact_times.specs.Compare.{is_greater}
+use Rattle.std.specs.Ordering.{is_gt}
 use Rattle.exact_times.specs.Laws.Orders.{greater_ltb}
 use Rattle.exact_times.specs.Laws.Instants.{not_after, before_the_end, ticks_le}
 use Rattle.exact_times.proofs.moments.inside_at.Goals as goal
@@ -11,7 +11,7 @@ pub returns-then-t-start : goal.returns-then-t-start
 returns-then-t-start c = not_after _ _ _ (ticks_le _ _ c.if-t-start.true c.requires.0)
 
 pub returns : goal.returns
-returns c = c.is_greater.ensures
-    ∙ ap is_greater c.sum_order.ensures
+returns c = c.is_gt.ensures
+    ∙ ap is_gt c.sum_order.ensures
     ∙ greater_ltb _ _
     ∙ before_the_end _ _ _ (ticks_mono _ _ c.if-t-start.false c.requires.2)

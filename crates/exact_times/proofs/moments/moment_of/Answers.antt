@@ -10,20 +10,20 @@ use lib.Ieee.Scale.{finite}
 use Rattle.chart.specs.Time.{time}
 use Rattle.exact_times.specs.Laws.Instants.{plus_tells, zero_tells, minus_tells}
 use Rattle.exact_times.proofs.moments.moment_of.Goals as goal
-use Rattle.exact_times.proofs.moments.moment_of.Goals.{After-bits_f64-b}
+use Rattle.exact_times.proofs.moments.moment_of.Goals.{After-f64_to_bits_with_nan-b}
 
 -- the pattern is read back
-read : (c : After-bits_f64-b) → time c.bits_f64-b.result ≡ c.args.t
-read c = ap (of_bits binary64) c.bits_f64-b.ensures ∙ of_bits-to_bits binary64 c.args.t (subst T (sym c.well_formed.0.1) tt)
+read : (c : After-f64_to_bits_with_nan-b) → time c.f64_to_bits_with_nan-b.result ≡ c.args.t
+read c = ap (of_bits binary64) c.f64_to_bits_with_nan-b.ensures ∙ of_bits-to_bits binary64 c.args.t (subst T (sym c.well_formed.0.1) tt)
 
-still : (c : After-bits_f64-b) → finite (time c.bits_f64-b.result) ≡ true
+still : (c : After-f64_to_bits_with_nan-b) → finite (time c.f64_to_bits_with_nan-b.result) ≡ true
 still c = ap finite (read c) ∙ c.requires
 
 pub returns-then-b-lt-SIGN : goal.returns-then-b-lt-SIGN
-returns-then-b-lt-SIGN c = rw (read (goal.at.returns-then-b-lt-SIGN c).After-bits_f64-b) at (plus_tells _ (still (goal.at.returns-then-b-lt-SIGN c).After-bits_f64-b) c.if-b-lt-SIGN.true)
+returns-then-b-lt-SIGN c = rw (read (goal.at.returns-then-b-lt-SIGN c).After-f64_to_bits_with_nan-b) at (plus_tells _ (still (goal.at.returns-then-b-lt-SIGN c).After-f64_to_bits_with_nan-b) c.if-b-lt-SIGN.true)
 
 pub returns-then-b : goal.returns-then-b
-returns-then-b c = rw (read (goal.at.returns-then-b c).After-bits_f64-b) at (rw (← c.if-b.true) at zero_tells)
+returns-then-b c = rw (read (goal.at.returns-then-b c).After-f64_to_bits_with_nan-b) at (rw (← c.if-b.true) at zero_tells)
 
 pub returns : goal.returns
-returns c = rw (read (goal.at.returns c).After-bits_f64-b) at (minus_tells _ (still (goal.at.returns c).After-bits_f64-b) (search rules) (search rules))
+returns c = rw (read (goal.at.returns c).After-f64_to_bits_with_nan-b) at (minus_tells _ (still (goal.at.returns c).After-f64_to_bits_with_nan-b) (search rules) (search rules))

@@ -4,12 +4,8 @@ use Rattle.hit_object_lines.specs.Reading.{with_digit}
 use Rattle.hit_object_reader.specs.Laws.Parts.{digit_range}
 use Rattle.hit_object_reader.proofs.digits.with_digit.Goals as goal
 
-pub overflow_sub-next : goal.overflow_sub-next
-overflow_sub-next c = (digit_range c.args.c c.requires.1).0
-
-pub returns-then-next-gt-LATEST_END : goal.returns-then-next-gt-LATEST_END
-unfolding with_digit
-returns-then-next-gt-LATEST_END c = (omega arith, omega arith)
+pub overflow_sub-c : goal.overflow_sub-c
+overflow_sub-c c = (digit_range c.args.c c.requires.1).0
 
 pub returns : goal.returns
 unfolding with_digit

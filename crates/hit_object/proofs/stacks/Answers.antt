@@ -1,7 +1,0 @@
--- `hit_object::stacks` meets its contract: the code is the definition. Assumes nothing.
-use Rattle.mania.specs.HitObject.{some}
-use Rattle.hit_object.proofs.stacks.Goals as goal
-
-pub returns : goal.returns
-unfolding some
-returns c = rw c.has_type-has.ensures

@@ -1,2 +1,0 @@
--- A job that ended, from the code's answer (`Ended`).
-pub mod Ended

@@ -1,6 +1,0 @@
--- `record::refusal::f64_refusal` meets its contract: what its calls ensure, put together.
--- Assumes nothing.
-use Rattle.record.proofs.refusal.f64_refusal.Goals as goal
-
-pub returns : goal.returns
-returns c = simp (c.first.ensures, c.refuse-value.ensures, c.within_f64.ensures, c.read_bits.ensures, c.refuse-whole.ensures, c.is_short.ensures)

@@ -1,0 +1,2 @@
+-- The number of an object's kind (`Shape`).
+pub mod Shape
