@@ -28,13 +28,7 @@ fn check_lines(s: &[u8], columns: u8) -> Option<u32>
     requires { Columns columns }
     ensures { checked_told result ≡ count_of (notes_for columns s.now) }
 {
-    let mut last = Note {
-        column: 0,
-        hold: false,
-        origin: None,
-        start: 0,
-        duration: 0,
-    };
+    let mut last = chart::BLANK;
     let mut count: u32 = 0;
     let mut rest = s;
     while !rest.is_empty() {

@@ -67,7 +67,8 @@ fn points_up_to(section: Section, s: &[u8], at: usize, count: usize, p: Passed, 
     }
 }
 
-// The same, but `None` where as many are passed at t as p says.
+// The same, but `None` where as many are passed at t as p says: most often, so the test is the callers' own.
+#[inline(always)]
 fn newly_passed(
     section: Section,
     s: &[u8],

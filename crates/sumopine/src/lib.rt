@@ -86,27 +86,21 @@ pub extern "C" fn sumopine_read_chart(
 fn bit(flag: bool) -> u32
     ensures { result ≡ cond flag 1 0 }
 {
-    if flag { 1 } else { 0 }
+    u32::from(flag)
 }
 
 // Whether a note tells its object.
 fn is_told(origin: Option<u16>) -> u32
     ensures { result ≡ told origin }
 {
-    match origin {
-        None => 0,
-        Some(_) => 1,
-    }
+    u32::from(origin.is_some())
 }
 
 // The object that a note tells, else 0.
 fn object_in(origin: Option<u16>) -> u32
     ensures { result ≡ index origin }
 {
-    match origin {
-        None => 0,
-        Some(i) => i as u32,
-    }
+    u32::from(origin.unwrap_or(0))
 }
 
 // The note of an index, counted from 0: 1 and its fields where the bytes go on to its end, else 0 and zeros.
