@@ -10,7 +10,7 @@ ghost use Rattle.announced.specs.Announced.{setting_fits, distance_fits, columns
 ghost use Rattle.announced.specs.Gathered.{gathered};
 
 use floats::{Float, Way};
-use mania::{Facts, PrevValues, Stair};
+use mania::{Facts, PrevValues};
 use model::{Kind, Object, Position, limits};
 use rules::Refusal;
 
@@ -47,7 +47,8 @@ pub struct Slider {
 
 // ---- the columns
 
-// Both ends are settings that a record can have, and the lower is not above the upper.
+// Both ends are settings that a record can have, and the lower is not above the upper. This and `distance_fits` are one line each, named for the
+// definition that it is.
 fn setting_fits(range: Bounds<f32>) -> bool
     ensures { result ≡ setting_fits range }
 {
@@ -86,7 +87,8 @@ fn gather(from: u32, to: u32, low: u32, high: u32, long: u32, objects: u32) -> u
 }
 
 // The column counts that some f32 values in the ranges yield, without a key choice: `long` of the objects are sliders or spinners.
-// Every whole number between the rounded ends of od's range is an od of it, and cs counts only by whether it is 5 or more.
+// Every whole number between the rounded ends of od's range is an od of it, and cs counts only by whether it is 5 or more. `long` and `objects` stay two
+// numbers, as in settings: with a struct of both, each definition would still take the two, and the calls would be longer by its name.
 pub fn possible_columns(
     od: Bounds<f32>,
     cs: Bounds<f32>,
@@ -105,7 +107,7 @@ pub fn possible_columns(
 
 // ---- a slider's end
 
-// What a slider's end does not depend on is 0.
+// What a slider's end does not depend on is 0. No `From`: for nothing else are these the facts at a slider.
 fn facts_of(slider: Slider) -> Facts
     ensures { result ≡ facts_of slider }
 {
@@ -141,14 +143,7 @@ fn rest_refusal(slider: Slider) -> Result<(), Refusal>
 {
     let facts = facts_of(slider);
     let object = object_of(slider, None);
-    let nothing = PrevValues {
-        time: 0.0,
-        position: Position { x: 0.0, y: 0.0 },
-        mask: 0,
-        last: 0,
-        stair: Stair::Up,
-    };
-    entry::entry_refusal(facts, nothing, 1, object)
+    entry::entry_refusal(facts, PrevValues::NONE, 1, object)
 }
 
 // Both ends are distances that a record can have, and the lower is not above the upper.

@@ -2,7 +2,7 @@
 #![tactic(auto)]
 
 ghost use Rattle.std.specs.Prelude.{◌≡◌, ◌+◌, ◌-◌, ◌*◌, ◌/◌, ◌%◌, ◌^◌, ◌≤◌, ◌<◌, eqb, length, get_or};
-ghost use Rattle.bits.specs.Field.{bits, short};
+ghost use Rattle.bits.specs.Field.{bit, bits, short};
 
 // 2 to the k.
 fn power(k: usize) -> u64
@@ -26,29 +26,31 @@ fn joined(v: u64, b: u8, room: usize, k: usize) -> u64
 fn byte_at(s: &[u8], i: usize) -> u8
     ensures { result ≡ get_or s.now i 0 }
 {
-    if i < s.len() { s[i] } else { 0 }
+    s.get(i).copied().unwrap_or(0)
 }
 
-// A field near the end of the bytes. Each turn takes what the field has of one byte: the steps differ, so `done` is no `for`'s index.
-fn read_by_bytes(s: &[u8], at: usize, width: usize) -> u64
+// Bit `at`, and 0 past the end.
+fn bit_at(s: &[u8], at: usize) -> u8
+    ensures { (result ≡ bit s.now at) × (result < 2) }
+{
+    (byte_at(s, at / 8) >> (7 - at % 8)) % 2
+}
+
+// A field near the end of the bytes, bit by bit. Not inlined, since it is seldom called and would make every reader of a field longer.
+#[inline(never)]
+fn read_by_bits(s: &[u8], at: usize, width: usize) -> u64
     requires { (width ≤ 64) × (at ≤ 4294967296) }
     ensures { result ≡ bits s.now at width }
 {
     let mut v: u64 = 0;
-    let mut done: usize = 0;
-    while done < width {
-        let here = at + done;
-        let left = width - done;
-        let room = 8 - here % 8;
-        let k = left.min(room);
-        let b = byte_at(s, here / 8);
-        v = joined(v, b, room, k);
-        done += k;
+    for done in 0..width {
+        v = v * 2 + u64::from(bit_at(s, at + done));
     }
     v
 }
 
-// The four bytes from byte i on, as one number. Written out, so that the compiler makes one load of the eight.
+// The four bytes from byte i on, as one number. Written out, so that the compiler makes one load of the eight; `chart::bytes::get8` is the same by a chart's
+// definitions, and neither crate knows the other.
 fn four_bytes(s: &[u8], i: usize) -> u64
     requires { i + 4 ≤ length s.now }
     ensures { result ≡ bits s.now (8 * i) 32 }
@@ -96,12 +98,12 @@ pub fn read_bits(s: &[u8], at: usize, width: usize) -> u64
         return 0;
     }
     if s.len() < i + 9 {
-        return read_by_bytes(s, at, width);
+        return read_by_bits(s, at, width);
     }
     word(s, i, at % 8) / power(64 - width)
 }
 
-// Whether the bytes end before bit `end`.
+// Whether the bytes end before bit `end`. By a sum, here and in job_reader: std's `div_ceil` goes by a remainder, and the definition multiplies.
 pub fn is_short(s: &[u8], end: usize) -> bool
     requires { end ≤ 4294967296 }
     ensures { result ≡ short s.now end }
@@ -114,11 +116,10 @@ pub fn read_flag(s: &[u8], at: usize) -> bool
     requires { at ≤ 4294967296 }
     ensures { result ≡ eqb (bits s.now at 1) 1 }
 {
-    let b = byte_at(s, at / 8);
-    (b >> (7 - at % 8)) % 2 == 1
+    bit_at(s, at) == 1
 }
 
-// A field of 32 bits, as a number of its width.
+// A field of 32 bits, as a number of its width: by `read_bits` the caller would have to prove that a `u32` holds it.
 pub fn read32(s: &[u8], at: usize) -> u32
     requires { at ≤ 4294967296 }
     ensures { result ≡ bits s.now at 32 }

@@ -1,7 +1,9 @@
-// Numbers in bytes, the highest byte first.
+// Numbers in bytes, the highest byte first. Places and no parts, here and in rows.rt: a note is defined of all the bytes from its place on, and what stores a
+// number leaves the others as they were.
 ghost use Rattle.std.specs.Prelude.{◌≡◌, ◌+◌, ◌^◌, ◌≤◌, ◌<◌, length, drop, replicate};
 ghost use Rattle.chart.specs.Bytes.{be, num, splice};
 
+// `u64::from`, with the bound that the sums below rest on.
 fn wide(x: u8) -> u64
     ensures { (result ≡ x) × (result < 256) }
 {
@@ -45,7 +47,7 @@ pub fn get3(s: &[u8], at: usize) -> u64
     wide(s[at]) * 65536 + wide(s[at + 1]) * 256 + wide(s[at + 2])
 }
 
-// Stores a number in the `size` bytes from `at`. All other bytes keep their values.
+// Stores a number in the `size` bytes from `at`, the last first. All other bytes keep their values.
 pub fn put(s: &mut [u8], at: usize, size: usize, value: u64)
     requires { at + size ≤ length s.old }
     ensures { s.new ≡ splice s.old at (be size value) }

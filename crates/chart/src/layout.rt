@@ -20,10 +20,7 @@ impl From<Version> for u8 {
     ghost from_gives = { λ version number. number ≡ version_number version };
 
     fn from(version: Version) -> u8 {
-        match version {
-            Version::One => 1,
-            Version::Two => 2,
-        }
+        version as u8
     }
 }
 

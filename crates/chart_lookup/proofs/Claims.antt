@@ -23,8 +23,7 @@ use Rattle.chart.specs.Laws.Times.{le_or_lt}
 use Rattle.chart.specs.Laws.Reader.{columns_few, notes_ok, notes_times}
 use Rattle.exact_times.specs.Instants.{instant, distance}
 use Rattle.exact_times.specs.Laws.Instants.{ticks_le}
-use Rattle.chart_lookup.specs.declared.Wanted.{Wanted}
-use Rattle.chart_lookup.specs.Lookup.{Outcome, refused, nothing, found, times_ok, wanted, places, filled, counted, given, listed, looked, listing}
+use Rattle.chart_lookup.specs.Lookup.{Wanted, Outcome, refused, nothing, found, times_ok, wanted, places, filled, counted, given, listed, looked, listing}
 use Rattle.chart_lookup.specs.Nearest.{away, nearest, placed, seeking, sought_in, sought}
 use Rattle.chart_lookup.specs.Laws.Notes.{starts_rise}
 use Rattle.chart_lookup.specs.Laws.Places.{none_found}

@@ -9,8 +9,7 @@ use Rattle.chart.specs.Tests.{every}
 use Rattle.chart.specs.Time.{time}
 use Rattle.chart.specs.Chart.{decode, ok_chart, ok_head, head_tests}
 use Rattle.exact_times.specs.Instants.{instant, covers_at, distance}
-use Rattle.chart_lookup.specs.declared.Wanted.TheVariants.{Starting, Covering}
-use Rattle.chart_lookup.specs.Lookup.{refused, nothing, found, times_ok, wanted, places, filled, counted, given, listed, looked, listing}
+use Rattle.chart_lookup.specs.Lookup.{Starting, Covering, refused, nothing, found, times_ok, wanted, places, filled, counted, given, listed, looked, listing}
 use Rattle.chart_lookup.specs.Nearest.{away, better, taken, nearest, placed, seeking}
 
 -- a hold at 0.1 for 0.2 in column 0, circles at 1 and 3 there, and one at 3 in column 1

@@ -1,6 +1,6 @@
 -- The lookups of notes around a moment.
 -- Assumes nothing.
-use Rattle.std.specs.Prelude.{Bool, not, ◌&&◌, cond, List, [], ◌∷◌, ◌++◌, ℕ, suc, ◌+◌, leb, length, drop, Some, None, Result, Ok, Err}
+use Rattle.std.specs.Prelude.{Bool, not, ◌&&◌, cond, List, [], ◌∷◌, ◌++◌, ℕ, suc, ◌+◌, leb, length, drop, Float, Some, None, Result, Ok, Err}
 use Rattle.std.specs.Prelude as Std
 use Rattle.std.proofs.Math.Option.{Option, none, some}
 use Rattle.std.specs.Float.Ieee.{lt, le}
@@ -13,8 +13,6 @@ use Rattle.chart.specs.declared.Note.{Note}
 use Rattle.chart.specs.Time.{time}
 use Rattle.chart.specs.Chart.{Score, decode}
 use Rattle.exact_times.specs.Instants.{instant, covers_at}
-use Rattle.chart_lookup.specs.declared.Wanted.{Wanted}
-use Rattle.chart_lookup.specs.declared.Wanted.TheVariants.{Starting, Covering}
 
 -- document 02's answers: the number of a refusal, that nothing is found, or a number of places
 pub data Outcome : Type 0 where
@@ -29,6 +27,11 @@ told (Ok None) = nothing
 told (Err r) = refused (code r)
 
 -- ---- which notes are asked for
+
+-- those that start within two times, ends included; or the holds that cover an instant
+pub data Wanted : Type 0 where
+  Starting : Float → Float → Wanted
+  Covering : Float → Wanted
 
 -- the times are finite, and the first is not above the second
 unfoldable pub times_ok : Wanted → Bool

@@ -2,9 +2,8 @@
 -- Assumes nothing.
 use Rattle.std.specs.Prelude.{◌≡◌, Bool, false, List, [], ◌∷◌, ℕ, zero, suc, ◌≤◌, ◌<◌, length, get_or, drop, Float, Option, Some, None}
 use Rattle.chart.specs.declared.Note.{Note}
-use Rattle.chart_lookup.specs.declared.Wanted.TheVariants.{Covering}
 use Rattle.chart.specs.Chart.{notes_in, blank}
-use Rattle.chart_lookup.specs.Lookup.{wanted, places}
+use Rattle.chart_lookup.specs.Lookup.{Covering, wanted, places}
 
 -- the first k notes are those that start before a bit pattern
 pub record Parts (ns : List Note) (pattern k : ℕ) : Type 0 where
@@ -37,6 +36,11 @@ pub record Next (ns : List Note) (column i k : ℕ) : Type 0 where
   pub within : k ≤ length ns
   pub none_before : (j : ℕ) → i ≤ j → j < k → (get_or ns j blank).column ≡ column → ⊥
   pub there : k < length ns → (get_or ns k blank).column ≡ column
+
+-- the same, where the code gives no number for none
+abbrev pub Following : List Note → ℕ → ℕ → Option ℕ → Type 0
+Following ns column i None = Next ns column i (length ns)
+Following ns column i (Some k) = (k < length ns) × Next ns column i k
 
 -- one more than a place, 0 for none
 abbrev pub past : Option ℕ → ℕ

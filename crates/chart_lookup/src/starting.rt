@@ -1,12 +1,12 @@
 // The notes that start within two times.
-ghost use Rattle.std.specs.Prelude.{◌≡◌, true, ◌+◌, ◌^◌, ◌≤◌, ◌<◌, length};
-ghost use Rattle.std.specs.Float.Ieee.Scale.{finite};
-ghost use Rattle.chart_lookup.specs.declared.Wanted.TheVariants.{Starting};
+ghost use Rattle.std.specs.Prelude.{◌≡◌, ◌+◌, ◌^◌, ◌≤◌, ◌<◌, length};
 ghost use Rattle.chart.specs.Chart.{notes_in};
-ghost use Rattle.chart_lookup.specs.Lookup.{wanted, places, filled, given, told};
+ghost use Rattle.chart_lookup.specs.Lookup.{Starting, wanted, places, filled, given, told};
 ghost use Rattle.chart_lookup.specs.Search.{run};
 
 use crate::starts::starting_before;
+use chart_reader::counted::Notes;
+use exact_times::instant::Instant;
 use exact_times::moments::{first_after, first_at};
 use rules::Refusal;
 
@@ -22,17 +22,15 @@ fn write_run(first: u32, found: u32, list: &mut [u32])
 
 // The lookup in a chart that was read. Starts never fall, so the places follow one another.
 pub fn list_starting(
-    chart: &[u8],
-    count: u32,
-    from: f64,
-    to: f64,
+    notes: Notes,
+    from: Instant,
+    to: Instant,
     list: &mut [u32],
 ) -> Result<Option<u32>, Refusal>
-    requires { (count ≡ length (notes_in chart.now)) × (finite from ≡ true) × (finite to ≡ true) }
-    ensures { (told result, list.new) ≡ given (places (wanted (Starting from to)) 0 (notes_in chart.now)) list.old }
+    ensures { (told result, list.new) ≡ given (places (wanted (Starting from.t to.t)) 0 (notes_in notes.entry.chart.now)) list.old }
 {
-    let first = starting_before(chart, count, first_at(from));
-    let end = starting_before(chart, count, first_after(to));
+    let first = starting_before(notes, first_at(from));
+    let end = starting_before(notes, first_after(to));
     if end <= first {
         return Ok(None);
     }

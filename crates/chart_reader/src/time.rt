@@ -6,8 +6,7 @@ ghost use Rattle.floats.specs.Format.{infinity};
 
 use exact_times::sum_order;
 
-// The bit pattern of 33554431.0.
-const LATEST: u64 = 0x417f_ffff_f000_0000;
+const LATEST: u64 = f64::to_bits(33554431.0);
 
 // Whether the exact sum of two times is at most 33,554,431 ms.
 pub fn within(start: u64, duration: u64) -> bool

@@ -1,13 +1,14 @@
-// The text of a chart, as `charttext` prints it: one line at a time into a lent buffer, or a whole chart.
+// The text of a chart, as `charttext` prints it: one line at a time into a lent buffer, or a whole chart. `s` and `at` are as in `text`.
 #![tactic(auto)]
 
-ghost use Rattle.std.specs.Prelude.{◌≡◌, ◌+◌, ◌*◌, ◌≤◌, ◌<◌, length};
+ghost use Rattle.std.specs.Prelude.{◌≡◌, ◌+◌, ◌*◌, ◌≤◌, length};
 ghost use Rattle.chart.specs.Bytes.{splice};
 ghost use Rattle.chart.specs.Chart.{notes_in};
 ghost use Rattle.chart_text.specs.Text.{draws_line, head_line, note_line, note_lines, refusal_line, text};
 
 use chart::Note;
-use chart_reader::{note_of, read};
+use chart_reader::counted::Notes;
+use chart_reader::read;
 use text::{put_decimal, put_named, put_with_hex, put_word};
 
 // Stores a line of two numbers and the draws from `at`, each number after its word, and gives the index after it.
@@ -64,16 +65,15 @@ pub fn put_refusal_line(s: &mut [u8], at: usize, number: u32, object: u32, draws
     put_draws_line(s, at, b"refused ", number, b" object ", object, draws)
 }
 
-// Stores the lines of the notes of a chart, of which there are `count`, from `at`, where there is room for 51 bytes each, and gives the index after
-// them.
-fn put_note_lines(chart: &[u8], count: u32, s: &mut [u8], at: usize) -> usize
-    requires { (count ≡ length (notes_in chart.now)) × (at + 51 * count ≤ length s.old) }
-    ensures value { (result ≡ at + length (note_lines (notes_in chart.now))) × (result ≤ at + 51 * count) }
-    ensures s_after { s.new ≡ splice s.old at (note_lines (notes_in chart.now)) }
+// Stores the lines of the notes of a chart from `at`, where there is room for 51 bytes each, and gives the index after them.
+fn put_note_lines(notes: Notes, s: &mut [u8], at: usize) -> usize
+    requires { at + 51 * notes.count ≤ length s.old }
+    ensures value { (result ≡ at + length (note_lines (notes_in notes.entry.chart.now))) × (result ≤ at + 51 * notes.entry.count) }
+    ensures s_after { s.new ≡ splice s.old at (note_lines (notes_in notes.entry.chart.now)) }
 {
     let mut next = at;
-    for i in 0..count {
-        let n = note_of(chart, i);
+    for i in 0..notes.count {
+        let n = notes.note(i);
         next = put_note_line(s, next, n);
     }
     next
@@ -88,7 +88,7 @@ pub fn put_chart(chart: &[u8], s: &mut [u8]) -> usize
     match read(chart) {
         Ok(header) => {
             let at = put_head_line(s, 0, header.columns, header.notes, header.draws);
-            put_note_lines(chart, header.notes, s, at)
+            put_note_lines(Notes::new(chart, header), s, at)
         }
         Err(_) => 0,
     }

@@ -16,7 +16,8 @@ use chart::Version;
 use chart::bytes::put;
 use chart::layout::{HEADER_SIZE, NOTE_SIZE};
 
-// Stores the eight bytes of a version's header. All other bytes keep their values.
+// Stores the eight bytes of a version's header. All other bytes keep their values. Its numbers one by one: a `Header` has its
+// columns as a u32, which both callers would widen and this would narrow again.
 pub fn put_header(version: Version, s: &mut [u8], columns: u8, notes: u32, draws: u32)
     requires { (columns < 16) × (8 ≤ length s.old) }
     ensures { s.new ≡ splice s.old 0 (header version columns notes draws) }

@@ -13,6 +13,9 @@ ghost use Rattle.convert.specs.Ends.{job_end, numbers_of, without_points, song_r
 use model::limits::MOST_NOTES;
 use random::{Draws, Tally};
 use record::Summary;
+use record::entries::Entries;
+use record::layout::BREAKS;
+use record::section::total_break_time;
 use rules::Refusal;
 use walk::{PointCounts, Song, Stopped};
 
@@ -40,7 +43,11 @@ fn song_of(bytes: &[u8], m: Summary) -> Song
     let counts = m.counts;
     let objects = counts.objects as u32;
     let long = m.long as u32;
-    let breaks = record::section::total_break_time(bytes, record::layout::BREAKS, counts.breaks);
+    let breaks = total_break_time(Entries {
+        s: bytes,
+        at: BREAKS,
+        count: counts.breaks,
+    });
     let columns = settings::columns_of(m.keys, settings, long, objects);
     let difficulty = settings::conversion_difficulty(settings, breaks, m.first, m.last, objects);
     let points = PointCounts {
@@ -60,16 +67,13 @@ fn song_of(bytes: &[u8], m: Summary) -> Song
 fn without_points(g: Song) -> Song
     ensures { result ≡ without_points g }
 {
-    let points = PointCounts {
-        timing: 0,
-        difficulty: 0,
-        effect: 0,
-    };
     Song {
-        columns: g.columns,
-        difficulty: g.difficulty,
-        multiplier: g.multiplier,
-        points,
+        points: PointCounts {
+            timing: 0,
+            difficulty: 0,
+            effect: 0,
+        },
+        ..g
     }
 }
 
@@ -85,39 +89,30 @@ fn walk_part(
     requires { Known bytes.now m × (g ≡ numbers_of (song_of bytes.now) m.counts) × (8 ≤ length chart.old) }
     ensures { Ends (song_rule bytes.now (length chart.old) d) chart.old chart.new result }
 {
+    // Fixed memory, since there is no heap: an object makes at most MOST_NOTES notes.
     let mut words: [u64; MOST_NOTES] = [0; MOST_NOTES];
     let mut spare: [u64; MOST_NOTES] = [0; MOST_NOTES];
     let counts = m.counts;
     let places = m.places;
     let count = counts.objects;
     let first = places.objects;
+    // Two calls: as one, the points, the list and the song would each be chosen by the count.
     if count == 0 {
         let none = without_points(g);
-        return walk::walk_objects(
-            &bytes[0..0],
-            &bytes[0..0],
-            chart,
-            &mut words,
-            &mut spare,
-            none,
-            0,
-            0,
-            d,
-        );
+        let list = Entries {
+            s: &bytes[0..0],
+            at: 0,
+            count: 0,
+        };
+        return walk::walk_objects(&bytes[0..0], list, chart, &mut words, &mut spare, none, d);
     }
     let points = places.timing / 8;
-    let start = first / 8;
-    walk::walk_objects(
-        &bytes[points..],
-        &bytes[start..],
-        chart,
-        &mut words,
-        &mut spare,
-        g,
-        first % 8,
-        count as u32,
-        d,
-    )
+    let list = Entries {
+        s: &bytes[first / 8..],
+        at: first % 8,
+        count,
+    };
+    walk::walk_objects(&bytes[points..], list, chart, &mut words, &mut spare, g, d)
 }
 
 // A refusal zeroes the whole chart buffer.
@@ -153,6 +148,7 @@ fn convert_song(
     let g = song_of(bytes, m);
     let settings = m.settings;
     let random = random::from_seed(settings::seed(settings));
+    // Written out, as in `single`: a constructor of draws for the two would be longer with its contract.
     let tally = Tally {
         left: allowance,
         longest: 0,

@@ -11,6 +11,7 @@ use borrow.Author.Tests.{lt-ltb, le-ltb, leb-true, leb-false}
 use lib.Ieee.{Float, nan, binary64, sub, div}
 use lib.ListN.{length, take, drop, set, get_or, length-append, length-drop}
 use lib.Seq.{length-take-le, take-suc-set, take_all, get_or-take, drop-append-le, drop-drop, drop_at}
+use Rattle.std.specs.List.{range_with_len}
 use Rattle.model.specs.declared.Object.{Object}
 use Rattle.mania.specs.Convert.{node_time, nodes}
 use Rattle.mania.specs.Steps.{double#}
@@ -77,20 +78,21 @@ computed p q time v e k = rw k (ap anew e)
     anew : Queue.Density → Queue.Density
     anew x = record { times = x.times; value = density_of x.times x.value }
 
-nodes_suc : (o : Object) (l k n : ℕ) (d : Queue.Density) → nodes o l (suc k) n d ≡ nodes o l k (suc n) (compute_density (node_time o l n) d)
-unfolding nodes
-nodes_suc o l k n d = refl
+-- the nodes of a list, one after the other
+abbrev pub over : Object → ℕ → List ℕ → Queue.Density → Queue.Density
+over o l [] d = d
+over o l (n ∷ ns) d = over o l ns (compute_density (node_time o l n) d)
 
--- one node more, and none
-pub node_more : (o : Object) (l count n : ℕ) (d : Queue.Density) → n < count
-    → nodes o l (count - (n + 1)) (n + 1) (compute_density (node_time o l n) d) ≡ nodes o l (count - n) n d
-node_more o l count n d h =
-    let e : count - n ≡ suc (count - (n + 1)) = omega arith in
-    rw (e, add-one) (sym (nodes_suc o l (count - suc n) n d))
+-- one more at its end
+pub over_more : (o : Object) (l : ℕ) (ns : List ℕ) (n : ℕ) (d : Queue.Density) → over o l (ns ++ n ∷ []) d ≡ compute_density (node_time o l n) (over o l ns d)
+over_more o l [] n d = refl
+over_more o l (m ∷ ns) n d = over_more o l ns n (compute_density (node_time o l m) d)
 
-pub nodes_done : (o : Object) (l count n : ℕ) (d : Queue.Density) → count ≤ n → nodes o l (count - n) n d ≡ d
+-- k of them from n on
+pub over_range : (o : Object) (l k n : ℕ) (d : Queue.Density) → over o l (range_with_len n k) d ≡ nodes o l k n d
 unfolding nodes
-nodes_done o l count n d h = let e : count - n ≡ 0 = omega arith in rw e
+over_range o l zero n d = refl
+over_range o l (suc k) n d = rw (add-one n) (over_range o l k (suc n) (compute_density (node_time o l n) d))
 
 -- ---- the last seven times are all that counts
 

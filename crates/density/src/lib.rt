@@ -23,7 +23,7 @@ pub fn new() -> Density
     }
 }
 
-// One more time; the oldest of seven goes.
+// One more time; the oldest of seven goes. The seven are written out: std's `rotate_left` clears 4,096 bytes of the stack at each call.
 fn push(d: Density, time: f64) -> Density
     ensures { queued result ≡ pushed time (queued d) }
 {
@@ -83,9 +83,5 @@ pub fn node_time(o: Object, length: u32, n: u32) -> f64
 pub fn nodes(d: Density, o: Object, length: u32, count: u32) -> Density
     ensures { queued result ≡ Convert.nodes o length count 0 (queued d) }
 {
-    let mut r = d;
-    for n in count.saturating_sub(7)..count {
-        r = compute_density(r, node_time(o, length, n));
-    }
-    r
+    (count.saturating_sub(7)..count).fold(d, |d, n| compute_density(d, node_time(o, length, n)))
 }

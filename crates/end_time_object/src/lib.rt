@@ -1,7 +1,7 @@
 // The generator of a spinner or a hold: one note.
 #![tactic(auto)]
 
-ghost use Rattle.std.specs.Prelude.{◌≡◌, ◌≤◌, ◌<◌, length, eqb, if◌then◌else◌};
+ghost use Rattle.std.specs.Prelude.{◌≡◌, ◌<◌, length, eqb, if◌then◌else◌};
 ghost use Rattle.std.specs.Int.Count.{ones};
 ghost use Rattle.random.specs.Play.{on};
 ghost use Rattle.random.specs.Answers.{number};
@@ -9,8 +9,12 @@ ghost use Rattle.mania.specs.EndTimeObject as Rule;
 ghost use Rattle.pattern.specs.Answers.{Generates};
 ghost use Rattle.end_time_object.specs.Answers.{end_note_at};
 
-use mania::{Note, PrevValues};
+pub mod generator;
+
+use generator::EndTimeObjectPatternGenerator;
+use mania::{Next, Note};
 use model::{Object, sound};
+use pattern::search::Search;
 use pattern::{Made, Pattern};
 use random::{Draws, Outcome, Refused};
 use rules::Refusal;
@@ -34,29 +38,36 @@ fn barred(mask: u16, columns: u8) -> u16
 }
 
 // A drawn column, off the previous pattern.
-fn end_column(d: Draws, v: PrevValues, columns: u8) -> Outcome<u8>
-    requires { (0 < columns) × (columns ≤ 9) }
-    ensures { number result ≡ on (Rule.end_column v columns) d }
+fn end_column(d: Draws, g: EndTimeObjectPatternGenerator) -> Outcome<u8>
+    ensures { number result ≡ on (Rule.end_column g.v g.columns) d }
 {
-    let taken = barred(v.mask, columns);
+    let columns = g.columns;
+    let taken = barred(g.v.mask, columns);
     let low = pattern::random_start(columns);
     let (c, drawn) = pattern::get_random_column(d, low, columns)?;
-    pattern::find_available_column(drawn, mania::Next::Draw, columns, c, low, columns, taken)
+    let search = Search {
+        next: Next::Draw,
+        columns,
+        initial: c,
+        lower: low,
+        upper: columns,
+        taken,
+    };
+    pattern::find_available_column(drawn, search)
 }
 
 // The note's column: of 8 columns the special one for a short finish.
-fn note_column(d: Draws, v: PrevValues, columns: u8, o: Object, lasts: f64) -> Outcome<u8>
-    requires { (0 < columns) × (columns ≤ 9) }
-    ensures { number result ≡ on (Rule.note_column v columns o lasts) d }
+fn note_column(d: Draws, g: EndTimeObjectPatternGenerator, lasts: f64) -> Outcome<u8>
+    ensures { number result ≡ on (Rule.note_column g.v g.columns g.o lasts) d }
 {
-    let finish = sound::has_flag(o.sound, sound::FINISH);
-    if (columns == 8) & finish & (lasts < 1000.0) {
+    let finish = sound::has_flag(g.o.sound, sound::FINISH);
+    if (g.columns == 8) & finish & (lasts < 1000.0) {
         return Ok((0, d));
     }
-    end_column(d, v, columns)
+    end_column(d, g)
 }
 
-// The note at a column: a hold where it lasts 100 or more.
+// The note at a column: a hold where it lasts 100 or more. Two cases, as the definition has them.
 fn end_note(o: Object, lasts: f64, c: u8) -> Note
     ensures { result ≡ Rule.end_note o lasts c }
 {
@@ -88,18 +99,15 @@ pub fn end_note_at(o: Object, duration: f64, w: u64) -> Note
 // One note; the previous pattern and the stair stay.
 pub fn generate_by_value(
     d: Draws,
-    v: PrevValues,
-    columns: u8,
-    o: Object,
-    duration: f64,
+    g: EndTimeObjectPatternGenerator,
     words: &mut [u64],
 ) -> Outcome<Made>
-    requires { (0 < columns) × (columns ≤ 9) × (0 < length words.old) }
-    ensures { Generates (end_note_at o duration) words.new (on (Rule.generate v columns o duration) d) 1 result }
+    requires { 0 < length words.old }
+    ensures { Generates (end_note_at g.o g.duration) words.new (on (Rule.generate g.v g.columns g.o g.duration) d) 1 result }
 {
-    let lasts = lasting(o, duration);
-    let (c, next) = note_column(d, v, columns, o, lasts)?;
-    if columns <= c {
+    let lasts = lasting(g.o, g.duration);
+    let (c, next) = note_column(d, g, lasts)?;
+    if g.columns <= c {
         return Err(Refused {
             refusal: Refusal::OffDeck,
             draws: next,
@@ -107,14 +115,14 @@ pub fn generate_by_value(
     }
     words[0] = c as u64;
     let pattern = Pattern {
-        mask: v.mask,
-        last: v.last,
+        mask: g.v.mask,
+        last: g.v.last,
         count: 1,
     };
     Ok((
         Made {
             pattern,
-            stair: v.stair,
+            stair: g.v.stair,
         },
         next,
     ))

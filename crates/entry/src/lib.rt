@@ -8,21 +8,20 @@ ghost use Rattle.entry.specs.Parts.{last_fits};
 
 use mania::{Facts, PrevValues};
 use model::{Kind, Object, Position, limits};
-use rules::Refusal;
+use rules::{Refusal, refuse};
 
-// A last column of the mask, or 0 with an empty one.
+// A last column of the mask, or 0 with an empty one. The columns have an upper bound alone, for the shift. The bit
+// by itself: `pattern::is_free` is of a crate that this one does not name.
 #[tactic(auto, unfolding(crate::specs::Parts::last_fits, mania::specs::Pattern::free))]
 fn last_fits(mask: u16, last: u8, columns: u8) -> bool
     requires { columns ≤ 9 }
     ensures { result ≡ last_fits mask last columns }
 {
     if mask == 0 {
-        return last == 0;
+        last == 0
+    } else {
+        last < columns && (mask >> last) % 2 != 0
     }
-    if columns <= last {
-        return false;
-    }
-    (mask >> last) % 2 != 0
 }
 
 // Columns 1 to 9, no mask bit beyond them, and the last column.
@@ -30,16 +29,7 @@ fn last_fits(mask: u16, last: u8, columns: u8) -> bool
 fn pattern_fits(v: PrevValues, columns: u8) -> bool
     ensures { result ≡ pattern_fits v columns }
 {
-    if columns < 1 {
-        return false;
-    }
-    if 9 < columns {
-        return false;
-    }
-    if (1u16 << columns) <= v.mask {
-        return false;
-    }
-    last_fits(v.mask, v.last, columns)
+    (1..=9).contains(&columns) && v.mask < 1 << columns && last_fits(v.mask, v.last, columns)
 }
 
 // The multiplier, and a difficulty that is finite and not too high.
@@ -116,22 +106,13 @@ fn object_fits(f: Facts, v: PrevValues, o: Object) -> bool
         & floats::is_finite(f.density)
 }
 
-// The first check that fails.
+// The first check that fails. Four values one by one, as the definition takes them.
 #[tactic(auto, unfolding(mania::specs::Single::entry_refusal))]
 pub fn entry_refusal(f: Facts, v: PrevValues, columns: u8, o: Object) -> Result<(), Refusal>
     ensures { refusal_code result ≡ entry_refusal f v columns o }
 {
-    if !pattern_fits(v, columns) {
-        return Err(Refusal::ColumnsOrPrevious);
-    }
-    if !settings_fit(f) {
-        return Err(Refusal::Setting);
-    }
-    if !points_fit(f) {
-        return Err(Refusal::BreakOrPoint);
-    }
-    if !object_fits(f, v, o) {
-        return Err(Refusal::Object);
-    }
-    Ok(())
+    refuse(!pattern_fits(v, columns), Refusal::ColumnsOrPrevious)?;
+    refuse(!settings_fit(f), Refusal::Setting)?;
+    refuse(!points_fit(f), Refusal::BreakOrPoint)?;
+    refuse(!object_fits(f, v, o), Refusal::Object)
 }

@@ -1,7 +1,8 @@
 // Times compared exactly: the sum of two with a third, by their bit patterns. Every function is for the patterns below that of infinity, which are
-// the times from 0 on.
+// the times from 0 on. The bound is no type: a note has its times as its bytes spell them, and each would be taken into a struct first.
 #![tactic(auto)]
 
+pub mod instant;
 pub mod moments;
 
 ghost use Rattle.std.specs.Prelude.{◌≡◌, ◌+◌, ◌*◌, ◌^◌, ◌≤◌, ◌<◌};
@@ -11,23 +12,23 @@ ghost use Rattle.floats.specs.Format.{infinity};
 ghost use Rattle.exact_times.specs.Compare.{order_of};
 ghost use Rattle.exact_times.specs.Digits.{digits_of, power_of, Number};
 
-use floats::format::LEAD;
+use floats::Float;
 use std::cmp::Ordering;
 
 // A time is digits * 2^power of the smallest times.
 fn digits(b: u64) -> u64
     ensures { result ≡ digits_of b }
 {
-    if b < LEAD {
+    if b < f64::LEAD_BIT {
         return b;
     }
-    LEAD + b % LEAD
+    f64::LEAD_BIT + b % f64::LEAD_BIT
 }
 
 fn power(b: u64) -> u64
     ensures { result ≡ power_of b }
 {
-    (b / LEAD).saturating_sub(1)
+    (b / f64::LEAD_BIT).saturating_sub(1)
 }
 
 // n compared with rest * 2^shift.

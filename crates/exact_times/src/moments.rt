@@ -1,14 +1,14 @@
 // Holds and distances at an instant, exact. Times of notes are bit patterns below that of infinity; an instant is such a pattern too,
-// or any finite f64.
-ghost use Rattle.std.specs.Prelude.{◌≡◌, true, ◌+◌, ◌<◌, ltb, pos};
-ghost use Rattle.std.specs.Float.Ieee.Scale.{finite};
+// or any finite f64. The patterns' bound is no type: a note has its times as its bytes spell them, and each would be taken into a struct first.
+ghost use Rattle.std.specs.Prelude.{◌≡◌, ◌+◌, ◌<◌, ltb, pos};
 ghost use Rattle.floats.specs.Ticks.{ticks};
 ghost use Rattle.chart.specs.Time.{time};
 ghost use Rattle.floats.specs.Format.{infinity};
 ghost use Rattle.exact_times.specs.Instants.{instant, covers_at, inside_at, distance, Tells, FirstAt, FirstAfter};
 
+use crate::instant::Instant;
 use crate::{sum_order, sum_order_twice};
-use floats::format::SIGN;
+use floats::Float;
 
 // Whether a hold covers an instant, both ends included. Rounding keeps the order, so the exact sum is asked for only where the rounded one is t.
 pub fn covers_at(start: u64, duration: u64, t: u64) -> bool
@@ -57,67 +57,56 @@ pub fn nearer_at(first: u64, second: u64, t: u64) -> bool
     first < second
 }
 
-// The bit pattern of a finite f64 from 0 on; of a negative one none.
-pub fn moment_of(t: f64) -> Option<u64>
-    requires { finite t ≡ true }
-    ensures { Tells t result }
+// The bit pattern of an instant from 0 on; of a negative one none.
+pub fn moment_of(at: Instant) -> Option<u64>
+    ensures { Tells at.t result }
 {
-    let b = std::num::f64_to_bits_with_nan(t);
-    if b < SIGN {
+    let b = std::num::f64_to_bits_with_nan(at.t);
+    if b < f64::SIGN_BIT {
         return Some(b);
     }
-    if b == SIGN {
+    if b == f64::SIGN_BIT {
         return Some(0);
     }
     None
 }
 
 // The first bit pattern of a time at or after an instant.
-pub fn first_at(t: f64) -> u64
-    requires { finite t ≡ true }
-    ensures { FirstAt t result }
+pub fn first_at(at: Instant) -> u64
+    ensures { FirstAt at.t result }
 {
-    moment_of(t).unwrap_or(0)
+    moment_of(at).unwrap_or(0)
 }
 
 // The first one of a time after it.
-pub fn first_after(t: f64) -> u64
-    requires { finite t ≡ true }
-    ensures { FirstAfter t result }
+#[tactic(auto, using(crate::specs::Laws::Instants::at_after, crate::specs::Laws::Instants::before_after), unfolding(crate::specs::Instants::Tells))]
+pub fn first_after(at: Instant) -> u64
+    ensures { FirstAfter at.t result }
 {
-    match moment_of(t) {
-        Some(b) => b + 1,
-        None => 0,
-    }
+    moment_of(at).map_or(0, |b| b + 1)
 }
 
-// The three tests for any finite f64. One function over the test would need a contract as long as the three.
-pub fn covers(start: u64, duration: u64, t: f64) -> bool
-    requires { (start < infinity) × (duration < infinity) × (finite t ≡ true) }
-    ensures { result ≡ covers_at (ticks (time start)) (ticks (time start) + ticks (time duration)) (instant t) }
+// The three tests at any instant. One function over the test would need a contract as long as the three.
+#[tactic(auto, using(crate::specs::Laws::Instants::before_covers), unfolding(crate::specs::Instants::Tells))]
+pub fn covers(start: u64, duration: u64, at: Instant) -> bool
+    requires { (start < infinity) × (duration < infinity) }
+    ensures { result ≡ covers_at (ticks (time start)) (ticks (time start) + ticks (time duration)) (instant at.t) }
 {
-    match moment_of(t) {
-        Some(b) => covers_at(start, duration, b),
-        None => false,
-    }
+    moment_of(at).is_some_and(|b| covers_at(start, duration, b))
 }
 
-pub fn strictly_inside(start: u64, duration: u64, t: f64) -> bool
-    requires { (start < infinity) × (duration < infinity) × (finite t ≡ true) }
-    ensures { result ≡ inside_at (ticks (time start)) (ticks (time start) + ticks (time duration)) (instant t) }
+#[tactic(auto, using(crate::specs::Laws::Instants::before_inside), unfolding(crate::specs::Instants::Tells))]
+pub fn strictly_inside(start: u64, duration: u64, at: Instant) -> bool
+    requires { (start < infinity) × (duration < infinity) }
+    ensures { result ≡ inside_at (ticks (time start)) (ticks (time start) + ticks (time duration)) (instant at.t) }
 {
-    match moment_of(t) {
-        Some(b) => inside_at(start, duration, b),
-        None => false,
-    }
+    moment_of(at).is_some_and(|b| inside_at(start, duration, b))
 }
 
-pub fn nearer(first: u64, second: u64, t: f64) -> bool
-    requires { (first < infinity) × (second < infinity) × (finite t ≡ true) }
-    ensures { result ≡ ltb (distance (ticks (time second)) (instant t)) (distance (ticks (time first)) (instant t)) }
+#[tactic(auto, using(crate::specs::Laws::Instants::before_distance, crate::specs::Laws::Instants::ticks_ltb), unfolding(crate::specs::Instants::Tells))]
+pub fn nearer(first: u64, second: u64, at: Instant) -> bool
+    requires { (first < infinity) × (second < infinity) }
+    ensures { result ≡ ltb (distance (ticks (time second)) (instant at.t)) (distance (ticks (time first)) (instant at.t)) }
 {
-    match moment_of(t) {
-        Some(b) => nearer_at(first, second, b),
-        None => second < first,
-    }
+    moment_of(at).map_or(second < first, |b| nearer_at(first, second, b))
 }

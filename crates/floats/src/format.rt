@@ -1,19 +1,13 @@
 // Parts of bit patterns, and what the two types of floats have in common. specs/Format.antt says what the parts are.
 ghost use Rattle.std.specs.Prelude.{◌≡◌, ℕ, ◌*◌, ◌<◌, from_bits, pos, false, refl};
 ghost use Rattle.std.specs.Float.{Float as Ieee754, Format, NotNanBits, fin, binary32, binary64};
-ghost use Rattle.std.specs.Float.Ieee.{le, top, ones, hid};
-
-pub const SIGN: u64 = 0x8000_0000_0000_0000;
-
-pub const LEAD: u64 = 0x10_0000_0000_0000;
-
-pub const INFINITY: u64 = 0x7ff0_0000_0000_0000;
+ghost use Rattle.std.specs.Float.Ieee.{le, lt, top, ones, hid};
 
 // A type of floats, each of them the number of a bit pattern.
 pub trait Float: Copy {
     type Bits: Copy;
 
-    // The parts of its patterns, as those above are of an `f64`'s.
+    // The parts of its patterns: the sign's bit, the lowest bit of the exponent's field, and the pattern of infinity.
     const SIGN_BIT: u64;
 
     const LEAD_BIT: u64;
@@ -46,6 +40,10 @@ pub trait Float: Copy {
     // `self <= other`
     fn at_most(self, other: Self) -> bool
         ensures { result ≡ le (value self) (value other) };
+
+    // `self < other`
+    fn below(self, other: Self) -> bool
+        ensures { result ≡ lt (value self) (value other) };
 
     // The same number as an `f64`.
     fn wide(self) -> f64
@@ -97,6 +95,10 @@ impl Float for f64 {
         self <= other
     }
 
+    fn below(self, other: f64) -> bool {
+        self < other
+    }
+
     fn wide(self) -> f64 {
         self
     }
@@ -141,6 +143,10 @@ impl Float for f32 {
 
     fn at_most(self, other: f32) -> bool {
         self <= other
+    }
+
+    fn below(self, other: f32) -> bool {
+        self < other
     }
 
     fn wide(self) -> f64 {

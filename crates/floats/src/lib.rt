@@ -11,12 +11,12 @@ ghost use Rattle.floats.specs.Whole.{in_units, rounded, signed, whole, natural, 
 ghost use Rattle.floats.specs.Narrow.{narrowed};
 ghost use Rattle.std.specs.Float.Ieee.Scale.{finite};
 ghost use Rattle.floats.specs.Range.{in_range, within, float};
-ghost use Rattle.floats.specs.Least.{least, greatest};
+ghost use Rattle.floats.specs.Least.{least, greatest, clamped};
 
 pub use format::Float;
-use format::{LEAD, SIGN};
 
-// How a number is taken to a whole one: toward zero, down, up, or to the nearest, a tie to the even one.
+// How a number is taken to a whole one: toward zero, down, up, or to the nearest, a tie to the even one. No code rounds up; the definition of a column's
+// position does.
 #[derive(Clone, Copy)]
 pub enum Way {
     Cut,
@@ -41,7 +41,8 @@ fn nearest(a: u64, b: u64) -> u64
     }
 }
 
-// The size of the whole number next to ±a / b.
+// The size of the whole number next to ±a / b. The definitions take a `Way` as a value and match it too (specs/Whole.antt): a trait with a type for each
+// would be no plainer.
 fn next_to(way: Way, negative: bool, a: u64, b: u64) -> u64
     requires { (a < 2 ^ 54) × (b < 2 ^ 54) × (0 < b) }
     ensures { result ≡ rounded way negative a b }
@@ -73,7 +74,12 @@ fn size_at(way: Way, negative: bool, exponent: u64, digits: u64) -> u64
         2147483648
     } else if 1022 <= exponent {
         // the number is 2^52 + digits, over 2^(1075 - exponent)
-        next_to(way, negative, LEAD + digits, 1u64 << (1075 - exponent))
+        next_to(
+            way,
+            negative,
+            f64::LEAD_BIT + digits,
+            1u64 << (1075 - exponent),
+        )
     } else if exponent + digits == 0 {
         next_to(way, negative, 0, 4)
     } else {
@@ -92,8 +98,13 @@ pub fn to_whole<F: Float>(x: F, way: Way) -> i32
         return 0;
     }
     let bits = f64::to_bits(x);
-    let negative = SIGN <= bits;
-    let size = size_at(way, negative, bits % SIGN / LEAD, bits % LEAD);
+    let negative = f64::SIGN_BIT <= bits;
+    let size = size_at(
+        way,
+        negative,
+        bits % f64::SIGN_BIT / f64::LEAD_BIT,
+        bits % f64::LEAD_BIT,
+    );
     with_sign(negative, size)
 }
 
@@ -114,10 +125,10 @@ fn narrow_size(exponent: u64, digits: u64) -> u64
         f32::INFINITY_BITS
     } else if 897 <= exponent {
         // 29 of 53 digits are dropped. A carry out of the digits goes into the exponent's field.
-        (exponent - 897) * f32::LEAD_BIT + nearest(LEAD + digits, 536870912)
+        (exponent - 897) * f32::LEAD_BIT + nearest(f64::LEAD_BIT + digits, 536870912)
     } else if 873 <= exponent {
         // below the normal range: a multiple of 2^-149
-        nearest(LEAD + digits, 1u64 << (926 - exponent))
+        nearest(f64::LEAD_BIT + digits, 1u64 << (926 - exponent))
     } else {
         0
     }
@@ -131,13 +142,13 @@ pub fn narrow(x: f64) -> f32
         return 0.0 / 0.0;
     }
     let bits = f64::to_bits(x);
-    let size = narrow_size(bits % SIGN / LEAD, bits % LEAD);
+    let size = narrow_size(bits % f64::SIGN_BIT / f64::LEAD_BIT, bits % f64::LEAD_BIT);
     let y = f32::from_bits(size as u32);
-    if SIGN <= bits { -y } else { y }
+    if f64::SIGN_BIT <= bits { -y } else { y }
 }
 
 // Whether the float of a bit pattern is finite, is not negative zero, and lies in a range. A NaN's
-// pattern is ruled out by its fields, since `from_bits` has no meaning there.
+// pattern is ruled out by its fields, since `from_bits` has no meaning there. Two bounds, as the definitions take them; nearly all are constants of `limits`.
 pub fn within<F: Float>(bits: F::Bits, lo: F, hi: F) -> bool
     ensures { result ≡ within F.format (F.value lo) (F.value hi) (F.number bits) }
 {
@@ -162,7 +173,7 @@ pub fn pattern<F: Float>(bits: F::Bits) -> F
     F::of_bits(bits)
 }
 
-// Whether a float is finite: std's method, by the word that the contracts above this crate have.
+// Whether a float is finite. std's method, and a function: with the method itself the proof at each call would have to bring in the definitions' `finite`.
 pub fn is_finite(x: f64) -> bool
     ensures { result ≡ finite x }
 {
@@ -193,4 +204,18 @@ pub fn max(x: f64, y: f64) -> f64
     ensures { result ≡ greatest x y }
 {
     if x < y { y } else { x }
+}
+
+// `x.clamp(low, high)`, which in std asks that the bounds are in order.
+#[tactic(auto, unfolding(crate::specs::Least::clamped))]
+pub fn clamp<F: Float>(low: F, high: F, x: F) -> F
+    ensures { F.value result ≡ clamped (F.value low) (F.value high) (F.value x) }
+{
+    if x.below(low) {
+        low
+    } else if high.below(x) {
+        high
+    } else {
+        x
+    }
 }

@@ -1,4 +1,4 @@
--- What a generator gives of a lent state. Assumes nothing.
+-- What a generator gives, and what of it where the state is lent. Assumes nothing.
 use Rattle.std.specs.Prelude.{Result, Ok, Err}
 use Rattle.random.specs.declared.Random.{Random}
 use Rattle.random.specs.declared.Tally.{Tally}
@@ -10,7 +10,11 @@ use Rattle.generators.specs.declared.LentRefused.{LentRefused}
 abbrev pub LentEnd : Type 0
 LentEnd = Result (Made × Tally) LentRefused
 
+-- by value
+abbrev pub End : Type 0
+End = Result (Made × Draws) Refused
+
 -- with the state that it left
-abbrev pub whole : Random → LentEnd → Result (Made × Draws) Refused
+abbrev pub whole : Random → LentEnd → End
 whole r (Ok (m, n)) = Ok (m, record { random = r; tally = n })
 whole r (Err e) = Err (record { refusal = e.refusal; draws = record { random = r; tally = e.tally } })

@@ -1,17 +1,17 @@
--- What the generator of a circle asks, and what it comes to of a lent state. Assumes nothing.
-use Rattle.std.specs.Prelude.{ℕ, ◌≤◌, ◌<◌, List}
+-- What the generator of a circle asks, and what it makes. Assumes nothing.
+use Rattle.std.specs.Prelude.{ℕ, ◌≤◌, List}
 use Rattle.random.specs.Play.{on}
-use Rattle.random.specs.declared.Random.{Random}
+use Rattle.random.specs.declared.Draws.{Draws}
 use Rattle.mania.specs.HitObject.{generate}
 use Rattle.pattern.specs.Answers.{Generates}
 use Rattle.circle_notes.specs.Answers.{circle_at}
-use Rattle.generators.specs.Answers.{LentEnd, whole}
-use Rattle.generators.specs.declared.circle.Ask.{Ask}
+use Rattle.hit_object.specs.declared.ready.ReadyCircle.{ReadyCircle}
+use Rattle.generators.specs.Answers.{End}
 
--- what `generate` asks, of n lent words
-abbrev pub Asks : Ask → ℕ → Type 0
-Asks a n = (0 < a.g.columns) × (a.g.columns ≤ 9) × (a.g.last < a.g.columns) × (16 ≤ n)
+-- what it asks, of n lent words: the type of `ready` says the rest
+abbrev pub Asks : ℕ → Type 0
+Asks n = 16 ≤ n
 
--- from the state r the rule ends at the state s with e, and the words are as `exit`
-abbrev pub Ends : Random → Ask → List ℕ → Random → LentEnd → Type 0
-Ends r a exit s e = Generates (circle_at a.g.start) exit (on (generate a.g) (record { random = r; tally = a.tally })) 14 (whole s e)
+-- from the draws d the rule ends with e, and the words are as `exit`
+abbrev pub Makes : ReadyCircle → Draws → List ℕ → End → Type 0
+Makes ready d exit e = Generates (circle_at ready.circle.g.start) exit (on (generate ready.circle.g) d) 14 e

@@ -1,18 +1,18 @@
-// The three generators where the state is lent, each thin over its function by value. All are lent the same: the state, the words that get the notes, and
-// the working space of sliders.
+// The generators where the state is lent, each over its function by value. All are lent the same: the state, the words that get the notes, and the
+// working space of sliders. They are slices, and each generator asks the room that its notes take: an array would ask a slider's 602 words of a circle too.
 #![tactic(auto)]
 
 ghost use Rattle.std.specs.Prelude.{◌≡◌, ℕ, List, length};
-ghost use Rattle.random.specs.declared.Random.{Random};
-ghost use Rattle.generators.specs.Answers.{LentEnd, whole};
+ghost use Rattle.random.specs.declared.Draws.{Draws};
+ghost use Rattle.generators.specs.Answers.{End, whole};
 
 use pattern::Made;
 use random::{Draws, Outcome, Random, Refused, Tally};
 use rules::Refusal;
 
-pub mod circle;
-pub mod slider;
-pub mod spinner;
+mod circle;
+mod slider;
+mod spinner;
 
 // A refusal of a generator that alters a `&mut Random`: of the draws after it only the tally is left to give.
 #[derive(Clone, Copy)]
@@ -31,20 +31,28 @@ pub struct Turn {
     pub end: LentEnd,
 }
 
-// What a generator is asked. From a state it ends at another one with an end, the words as they are then.
+// What one generator makes, by value.
 pub trait Generator {
     // what it asks, of so many lent words and so much working space
     ghost asks: { Self → ℕ → ℕ → Type 0 };
 
-    ghost ends: { Random → Self → List ℕ → Random → LentEnd → Type 0 };
+    // what it makes from the draws: the words as they are then, and the outcome
+    ghost makes: { Self → Draws → List ℕ → End → Type 0 };
 
-    // By value: the state and the answer apart.
-    fn take_turn(self, random: Random, words: &mut [u64], spare: &mut [u64]) -> Turn
+    fn make(self, d: Draws, words: &mut [u64], spare: &mut [u64]) -> Outcome<Made>
         requires { asks self (length words.old) (length spare.old) }
-        ensures { ends random self words.new result.random result.end };
+        ensures { makes self d words.new result };
 }
 
-// The state is taken out of what a generator gives.
+// What a generator is asked where the state is lent: the tally of the draws, and what its notes are made from.
+#[derive(Clone, Copy)]
+pub struct Ask<G> {
+    pub tally: Tally,
+    pub g: G,
+}
+
+// The state is taken out of what a generator gives. No `From`, here and for `outcome`: each is called once, and its contract would stand apart in a ghost
+// member.
 pub fn turn_of(e: Outcome<Made>) -> Turn
     ensures { whole result.random result.end ≡ e }
 {
@@ -81,25 +89,44 @@ pub fn outcome(t: Turn) -> Outcome<Made>
 }
 
 // The state is lent, and altered there.
-pub fn generate<A: Generator>(
+pub fn generate<G: Generator>(
     random: &mut Random,
-    ask: A,
+    ask: Ask<G>,
     words: &mut [u64],
     spare: &mut [u64],
 ) -> LentEnd
-    requires { A.asks ask (length words.old) (length spare.old) }
-    ensures { A.ends random.old ask words.new random.new result }
+    requires { G.asks ask.g (length words.old) (length spare.old) }
+    ensures { G.makes ask.g (record { random = random.old; tally = ask.tally }) words.new (whole random.new result) }
 {
-    let t = ask.take_turn(*random, words, spare);
+    let d = Draws {
+        random: *random,
+        tally: ask.tally,
+    };
+    let t = turn_of(ask.g.make(d, words, spare));
     *random = t.random;
     t.end
 }
 
 // Lends its state to `generate`.
-fn lend<A: Generator>(mut random: Random, ask: A, words: &mut [u64], spare: &mut [u64]) -> Turn
-    requires { A.asks ask (length words.old) (length spare.old) }
-    ensures { A.ends random ask words.new result.random result.end }
+fn lend<G: Generator>(mut random: Random, ask: Ask<G>, words: &mut [u64], spare: &mut [u64]) -> Turn
+    requires { G.asks ask.g (length words.old) (length spare.old) }
+    ensures { G.makes ask.g (record { random = random; tally = ask.tally }) words.new (whole result.random result.end) }
 {
     let end = generate(&mut random, ask, words, spare);
     Turn { random, end }
+}
+
+// For whoever owns the state: it is lent.
+pub fn generate_owned<G: Generator>(
+    d: Draws,
+    g: G,
+    words: &mut [u64],
+    spare: &mut [u64],
+) -> Outcome<Made>
+    requires { G.asks g (length words.old) (length spare.old) }
+    ensures { G.makes g d words.new result }
+{
+    let tally = d.tally;
+    let ask = Ask { tally, g };
+    outcome(lend(d.random, ask, words, spare))
 }

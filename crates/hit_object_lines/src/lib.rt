@@ -2,6 +2,7 @@
 #![tactic(auto)]
 
 pub mod lines;
+mod score;
 pub mod times;
 
 ghost use Rattle.std.specs.Prelude.{◌≡◌, true, ◌≤◌, length};
@@ -9,52 +10,51 @@ ghost use Rattle.chart.specs.Bytes.{splice};
 ghost use Rattle.chart.specs.Chart.{notes_in};
 ghost use Rattle.hit_object_lines.specs.Lines.{chart_lines, all_whole, writing_notes, writing};
 ghost use Rattle.hit_object_lines.specs.Told.{told, size_of, size_told};
-ghost use Rattle.hit_object_lines.specs.Laws.Notes.{Notes};
 
 use crate::lines::{line_size, put_line};
+use crate::score::Score;
 use crate::times::is_whole;
-use chart_reader::{note_of, read};
+use chart_reader::counted::Notes;
+use chart_reader::read;
 use rules::Refusal;
 
 // How many bytes a chart's lines have, if every time is a whole number of milliseconds.
-fn text_size(chart: &[u8], columns: u8, count: u32) -> Option<usize>
-    requires { Notes columns count (notes_in chart.now) }
-    ensures { size_told result ≡ size_of columns (notes_in chart.now) }
+fn text_size(score: Score) -> Option<usize>
+    ensures { size_told result ≡ size_of score.entry.columns (notes_in score.entry.notes.chart.now) }
 {
     let mut size: usize = 0;
-    for i in 0..count {
-        let n = note_of(chart, i);
-        if !is_whole(columns, n) {
+    for i in 0..score.notes.count {
+        let n = score.notes.note(i);
+        if !is_whole(score.columns, n) {
             return None;
         }
-        size += line_size(columns, n);
+        size += line_size(score.columns, n);
     }
     Some(size)
 }
 
-fn put_lines(chart: &[u8], columns: u8, count: u32, s: &mut [u8])
-    requires notes { Notes columns count (notes_in chart.now) }
-    requires room { (all_whole (notes_in chart.now) ≡ true) × (length (chart_lines columns (notes_in chart.now)) ≤ length s.old) }
-    ensures { s.new ≡ splice s.old 0 (chart_lines columns (notes_in chart.now)) }
+fn put_lines(score: Score, s: &mut [u8])
+    requires whole { all_whole (notes_in score.notes.chart.now) ≡ true }
+    requires room { length (chart_lines score.columns (notes_in score.notes.chart.now)) ≤ length s.old }
+    ensures { s.new ≡ splice s.old 0 (chart_lines score.entry.columns (notes_in score.entry.notes.chart.now)) }
 {
     let mut at = 0;
-    for i in 0..count {
-        let n = note_of(chart, i);
-        at = put_line(s, at, columns, n);
+    for i in 0..score.notes.count {
+        let n = score.notes.note(i);
+        at = put_line(s, at, score.columns, n);
     }
 }
 
 // Writes the lines of a chart that was read.
-fn write_notes(chart: &[u8], columns: u8, count: u32, text: &mut [u8]) -> Result<usize, Refusal>
-    requires { Notes columns count (notes_in chart.now) }
-    ensures result_value { told result ≡ (writing_notes columns (notes_in chart.now) text.old).0 }
-    ensures text_after { text.new ≡ (writing_notes columns (notes_in chart.now) text.old).1 }
+fn write_notes(score: Score, text: &mut [u8]) -> Result<usize, Refusal>
+    ensures result_value { told result ≡ (writing_notes score.entry.columns (notes_in score.entry.notes.chart.now) text.old).0 }
+    ensures text_after { text.new ≡ (writing_notes score.entry.columns (notes_in score.entry.notes.chart.now) text.old).1 }
 {
-    let size = text_size(chart, columns, count).ok_or(Refusal::NotWhole)?;
+    let size = text_size(score).ok_or(Refusal::NotWhole)?;
     if size > text.len() {
         return Err(Refusal::TextTooShort);
     }
-    put_lines(chart, columns, count, text);
+    put_lines(score, text);
     Ok(size)
 }
 
@@ -64,5 +64,9 @@ pub fn write_lines(chart: &[u8], text: &mut [u8]) -> Result<usize, Refusal>
     ensures text_after { text.new ≡ (writing chart.now text.old).1 }
 {
     let header = read(chart)?;
-    write_notes(chart, header.columns as u8, header.notes, text)
+    let score = Score {
+        notes: Notes::new(chart, header),
+        columns: header.columns as u8,
+    };
+    write_notes(score, text)
 }

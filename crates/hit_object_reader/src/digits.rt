@@ -13,7 +13,8 @@ fn with_digit(value: u32, c: u8) -> u32
     (value * 10 + u32::from(c - b'0')).min(LATEST_END + 1)
 }
 
-// A number with the digits that s begins with behind it, or one above the largest, and what follows them.
+// A number with the digits that s begins with behind it, or one above the largest, and what follows them. By `while`: `rest` is the second answer too, for
+// which a `for` would count an index and cut `s` there.
 fn digits_on(first: u32, s: &[u8]) -> (u32, &[u8])
     requires { first ≤ latest_end + 1 }
     ensures value { (result.0, result.1.now) ≡ digits_on first s.now }
@@ -21,10 +22,9 @@ fn digits_on(first: u32, s: &[u8]) -> (u32, &[u8])
 {
     let mut value = first;
     let mut rest = s;
-    while let Some((c, tail)) = rest.split_first() {
-        if !c.is_ascii_digit() {
-            return (value, rest);
-        }
+    while let Some((c, tail)) = rest.split_first()
+        && c.is_ascii_digit()
+    {
         value = with_digit(value, *c);
         rest = tail;
     }

@@ -23,6 +23,7 @@ fn near(v: PrevValues, o: Object) -> bool
     dx * dx + dy * dy < 399.999969482421875
 }
 
+// No `From`: a stair has a bit here and another number in the C interface.
 fn stair_bit(s: Stair) -> u16
     ensures { result ≡ stair_bit s }
 {
@@ -87,15 +88,19 @@ pub fn type_by_sound(columns: u8, sound: u8, flags: u16) -> u16
 
 // ---- chances
 
-// The caps on 2 to 5 notes, by column count from 0 on. A cap of 1 caps nothing. Four arrays, a line each: as one of `CircleChances` these figures take
-// sixty lines.
-const CAPS_2: [f64; 10] = [1.0, 1.0, 0.0, 0.1, 0.23, 1.0, 1.0, 1.0, 1.0, 1.0];
-
-const CAPS_3: [f64; 10] = [1.0, 1.0, 0.0, 0.0, 0.04, 0.15, 1.0, 1.0, 1.0, 1.0];
-
-const CAPS_4: [f64; 10] = [1.0, 1.0, 0.0, 0.0, 0.0, 0.03, 1.0, 1.0, 1.0, 1.0];
-
-const CAPS_5: [f64; 10] = [1.0, 1.0, 0.0, 0.0, 0.0, 0.0, 1.0, 1.0, 1.0, 1.0];
+// The caps on 2, 3, 4 and 5 notes, by column count from 0 on. A cap of 1 caps nothing.
+const CAPS: [[f64; 4]; 10] = [
+    [1.0, 1.0, 1.0, 1.0],
+    [1.0, 1.0, 1.0, 1.0],
+    [0.0, 0.0, 0.0, 0.0],
+    [0.1, 0.0, 0.0, 0.0],
+    [0.23, 0.04, 0.0, 0.0],
+    [1.0, 0.15, 0.03, 0.0],
+    [1.0, 1.0, 1.0, 1.0],
+    [1.0, 1.0, 1.0, 1.0],
+    [1.0, 1.0, 1.0, 1.0],
+    [1.0, 1.0, 1.0, 1.0],
+];
 
 // The chances, each at most its cap.
 fn capped(columns: u8, c: CircleChances) -> CircleChances
@@ -103,11 +108,12 @@ fn capped(columns: u8, c: CircleChances) -> CircleChances
     ensures { result ≡ Rule.capped columns c }
 {
     let i = columns as usize;
-    let p2 = floats::min(c.p2, CAPS_2[i]);
-    let p3 = floats::min(c.p3, CAPS_3[i]);
-    let p4 = floats::min(c.p4, CAPS_4[i]);
-    let p5 = floats::min(c.p5, CAPS_5[i]);
-    CircleChances { p2, p3, p4, p5 }
+    CircleChances {
+        p2: floats::min(c.p2, CAPS[i][0]),
+        p3: floats::min(c.p3, CAPS[i][1]),
+        p4: floats::min(c.p4, CAPS[i][2]),
+        p5: floats::min(c.p5, CAPS[i][3]),
+    }
 }
 
 // 1 − max((1 − p)·2, low)
@@ -176,66 +182,44 @@ pub fn mirrored_by(difficulty: f64) -> MirrorChances
     }
 }
 
+// Chances of two and of three notes, and none of more.
+fn two_or_three(p2: f64, p3: f64) -> CircleChances
+    ensures { result ≡ record { p2 = p2; p3 = p3; p4 = double 0 1; p5 = double 0 1 } }
+{
+    CircleChances {
+        p2,
+        p3,
+        p4: 0.0,
+        p5: 0.0,
+    }
+}
+
 // The chances of a random pattern, by the conversion difficulty; smaller where they are to be rare.
 pub fn chances_by(difficulty: f64, rare: bool) -> CircleChances
     ensures { result ≡ Rule.chances_by difficulty rare }
 {
     if difficulty > 6.5 {
-        if rare {
-            CircleChances {
-                p2: 0.78,
-                p3: 0.42,
-                p4: 0.0,
-                p5: 0.0,
-            }
+        return if rare {
+            two_or_three(0.78, 0.42)
         } else {
-            CircleChances {
-                p2: 1.0,
-                p3: 0.62,
-                p4: 0.0,
-                p5: 0.0,
-            }
-        }
-    } else if difficulty > 4.0 {
-        if rare {
-            CircleChances {
-                p2: 0.35,
-                p3: 0.08,
-                p4: 0.0,
-                p5: 0.0,
-            }
-        } else {
-            CircleChances {
-                p2: 0.52,
-                p3: 0.15,
-                p4: 0.0,
-                p5: 0.0,
-            }
-        }
-    } else if difficulty > 2.0 {
-        if rare {
-            CircleChances {
-                p2: 0.18,
-                p3: 0.0,
-                p4: 0.0,
-                p5: 0.0,
-            }
-        } else {
-            CircleChances {
-                p2: 0.45,
-                p3: 0.0,
-                p4: 0.0,
-                p5: 0.0,
-            }
-        }
-    } else {
-        CircleChances {
-            p2: 0.0,
-            p3: 0.0,
-            p4: 0.0,
-            p5: 0.0,
-        }
+            two_or_three(1.0, 0.62)
+        };
     }
+    if difficulty > 4.0 {
+        return if rare {
+            two_or_three(0.35, 0.08)
+        } else {
+            two_or_three(0.52, 0.15)
+        };
+    }
+    if difficulty > 2.0 {
+        return if rare {
+            two_or_three(0.18, 0.0)
+        } else {
+            two_or_three(0.45, 0.0)
+        };
+    }
+    two_or_three(0.0, 0.0)
 }
 
 // A drawn count of notes: the caps first, and then a clap makes two notes certain.

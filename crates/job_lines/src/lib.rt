@@ -7,7 +7,7 @@ ghost use Rattle.chart.specs.Bytes.{splice};
 ghost use Rattle.job_text.specs.Limits.{chart_bytes};
 ghost use Rattle.job_lines.specs.Printed.{lines_text, printed};
 
-use chart::bytes::get;
+use chart_reader::draws_in;
 use chart_text::put_refusal_line;
 use hit_object_lines::write_lines;
 use job_text::limits::CHART_BYTES;
@@ -29,14 +29,13 @@ impl Show for ChartLines {
     fn put(chart: &[u8], s: &mut [u8]) -> usize {
         match write_lines(chart, s) {
             Ok(size) => size,
-            Err(refusal) => {
-                put_refusal_line(s, 0, u32::from(refusal), 0, get(chart, 4, 4) as u32)
-            }
+            Err(refusal) => { put_refusal_line(s, 0, u32::from(refusal), 0, draws_in(chart)) }
         }
     }
 }
 
-// Stores what `hitobjects` prints for an input from the start of `text`, and gives its length.
+// Stores what `hitobjects` prints for an input from the start of `text`, and gives its length. One for each program: the contract says what this one
+// prints.
 pub fn put_printed(input: &[u8], text: &mut [u8; LINES_BYTES]) -> usize
     ensures value { (result ≡ length (printed input.now)) × (result ≤ length text.new) }
     ensures text_after { text.new ≡ splice text.old 0 (printed input.now) }

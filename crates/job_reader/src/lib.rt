@@ -10,6 +10,7 @@ ghost use Rattle.record.specs.Record.{lists_refusal, fill_refusal, parse, checke
 ghost use Rattle.model.specs.Totals.{first_start};
 
 use bits::read_bits;
+use record::entries::Entries;
 use record::header::{Counts, counts_of, header_refusal, keys_of, places_of, settings_of};
 use record::objects::Scanned;
 use record::refusal::{f64_at, refuse};
@@ -24,11 +25,31 @@ fn lists_refusal(s: &[u8], n: Counts) -> Result<(), Refusal>
     requires { SmallCounts n }
     ensures { refusal_code result ≡ lists_refusal s.now n }
 {
-    let at = places_of(n);
-    Section::Breaks.refusal(s, layout::BREAKS, n.breaks)?;
-    Section::TimingPoints.refusal(s, at.timing, n.timing)?;
-    Section::DifficultyPoints.refusal(s, at.difficulty, n.difficulty)?;
-    Section::EffectPoints.refusal(s, at.effect, n.effect)
+    let places = places_of(n);
+    let breaks = Entries {
+        s,
+        at: layout::BREAKS,
+        count: n.breaks,
+    };
+    let timing = Entries {
+        s,
+        at: places.timing,
+        count: n.timing,
+    };
+    let difficulty = Entries {
+        s,
+        at: places.difficulty,
+        count: n.difficulty,
+    };
+    let effect = Entries {
+        s,
+        at: places.effect,
+        count: n.effect,
+    };
+    Section::Breaks.refusal(breaks)?;
+    Section::TimingPoints.refusal(timing)?;
+    Section::DifficultyPoints.refusal(difficulty)?;
+    Section::EffectPoints.refusal(effect)
 }
 
 // The bits from bit `at` to the end of its byte, and what follows.
@@ -42,15 +63,14 @@ fn fill_refusal(s: &[u8], at: usize) -> Result<(), Refusal>
     refuse(!filled || bytes < s.len(), Refusal::Filling)
 }
 
-// The first of `count` objects from bit `at` on: its start, 0 without objects.
-fn first_start(s: &[u8], at: usize, count: usize) -> f64
-    requires { at ≤ 100000000 }
-    ensures { result ≡ first_start (objects s.now at count) }
+// The start of a list's first object, 0 without objects.
+fn first_start(list: Entries) -> f64
+    ensures { result ≡ first_start (objects list.entry.s.now list.entry.at list.entry.count) }
 {
-    if count == 0 {
+    if list.count == 0 {
         return 0.0;
     }
-    f64_at(s, at + layout::START)
+    f64_at(list.s, list.at + layout::START)
 }
 
 // Every condition of a record, in record order; what it is, where none applies.
@@ -61,13 +81,16 @@ pub fn check_record(s: &[u8]) -> Result<Summary, Refusal>
     let places = places_of(counts);
     header_refusal(s)?;
     lists_refusal(s, counts)?;
-    let at = places.objects;
-    let count = counts.objects;
-    let Scanned { end, last, long } = scan_objects(s, at, count)?;
+    let objects = Entries {
+        s,
+        at: places.objects,
+        count: counts.objects,
+    };
+    let Scanned { end, last, long } = scan_objects(objects)?;
     fill_refusal(s, end)?;
     let keys = keys_of(s);
     let settings = settings_of(s);
-    let first = first_start(s, at, count);
+    let first = first_start(objects);
     Ok(Summary {
         keys,
         settings,

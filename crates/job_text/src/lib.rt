@@ -22,7 +22,7 @@ use text::put_word;
 pub trait Show {
     ghost shown: { List ℕ → List ℕ };
 
-    // so many bytes have room for what is shown of a chart in the chart buffer
+    // the bytes that suffice for what is shown of a chart in the chart buffer
     ghost room: { ℕ };
 
     // Stores what is shown of a chart from the start of `s`, and gives its length.
@@ -82,7 +82,8 @@ impl Show for ChartText {
     }
 }
 
-// Stores what `charttext` prints for an input from the start of `text`, and gives its length.
+// Stores what `charttext` prints for an input from the start of `text`, and gives its length. One for each program: the contract says what this one
+// prints.
 pub fn put_printed(input: &[u8], text: &mut [u8; TEXT_BYTES]) -> usize
     ensures value { (result ≡ length (printed input.now)) × (result ≤ length text.new) }
     ensures text_after { text.new ≡ splice text.old 0 (printed input.now) }

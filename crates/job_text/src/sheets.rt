@@ -19,13 +19,14 @@ impl Show for ChartSheet {
 
     ghost line_room = { lit≤ tt };
 
-    // A sheet in so much room is refused for bytes that are no chart alone, of which nothing is shown.
+    // With this room only bytes that are no chart are refused, and of those nothing is shown.
     fn put(chart: &[u8], s: &mut [u8]) -> usize {
         put_sheet(chart, s).unwrap_or(0)
     }
 }
 
-// Stores what `chartsheet` prints for an input from the start of `text`, and gives its length.
+// Stores what `chartsheet` prints for an input from the start of `text`, and gives its length. One for each program: the contract says what this one
+// prints.
 pub fn put_sheet_printed(input: &[u8], text: &mut [u8; SHEET_BYTES]) -> usize
     ensures value { (result ≡ length (sheet_printed input.now)) × (result ≤ length text.new) }
     ensures text_after { text.new ≡ splice text.old 0 (sheet_printed input.now) }

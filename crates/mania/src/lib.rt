@@ -33,13 +33,24 @@ pub struct PrevValues {
     pub stair: Stair,
 }
 
+impl PrevValues {
+    // `PrevValues::default`, before the first object. A constant, since proofs compute it.
+    pub const NONE: PrevValues = PrevValues {
+        time: 0.0,
+        position: Position { x: 0.0, y: 0.0 },
+        mask: 0,
+        last: 0,
+        stair: Stair::Up,
+    };
+}
+
 // ---- what an object makes
 
-// A note of a chart. A circle's duration is 0.
+// A note of a chart. A circle's duration is 0. Times as numbers: `chart::Note` has their bits, which any bytes may spell.
 #[derive(Clone, Copy)]
 pub struct Note {
     pub column: u8,
-    // Beside the duration, as a chart has them: the bytes of a note are made from both.
+    // Beside the duration: the definitions make a note of both, as a chart's bytes have both.
     pub hold: bool,
     pub start: f64,
     pub duration: f64,

@@ -14,6 +14,8 @@ pub struct Settings {
     pub multiplier: f64,
 }
 
+// ---- for the definitions alone, with the Rust's names: the code reads these from the record
+
 #[derive(Clone, Copy)]
 pub struct BreakPeriod {
     pub start: f64,
@@ -40,6 +42,8 @@ pub struct EffectPoint {
     pub time: f64,
     pub kiai: bool,
 }
+
+// ---- objects
 
 #[derive(Clone, Copy)]
 pub struct Position {

@@ -1,4 +1,4 @@
-// `HitSoundType`: the bits of a sound.
+// `HitSoundType`: the bits of a sound. Numbers, as the record, the C interface and the definitions have them.
 ghost use Rattle.std.specs.Prelude.{◌≡◌};
 ghost use Rattle.model.specs.Sound.{has_flag};
 

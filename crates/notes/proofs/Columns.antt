@@ -7,8 +7,6 @@ use mathlib.Core.Bool.{Bool, true, false}
 use lib.Dec.{eqb}
 use lib.Ieee.{Float, le}
 use lib.Pow.{pow_pos}
-use Rattle.chart.specs.Layout.{indices}
-use Rattle.chart.specs.Chart.{index}
 use Rattle.chart.specs.declared.Note as Patterns
 use Rattle.model.specs.declared.Object.{Object}
 use Rattle.mania.specs.declared.Note.{Note}
@@ -39,15 +37,11 @@ pub slider_narrow : (i w : ℕ) → (pattern_of i (note_of_word w)).column < 16
 unfolding pattern_of note_of_word of_word
 slider_narrow i w = subst (λ (c : ℕ). c < 16) (sym (slider_column (of_word w))) (four_bits _)
 
-pub told_below : (i : ℕ) (n : Note) → i < indices → index (pattern_of i n).origin < indices
-unfolding pattern_of
-told_below i n h = h
+-- a pattern in a word's column
+abbrev pub row_in : Patterns.Note → ℕ → Patterns.Note
+row_in p w = record { column = w % 2 ^ 4; hold = p.hold; origin = p.origin; start = p.start; duration = p.duration }
 
--- a pattern in a word's column, of the object at index i
-abbrev pub row_in : ℕ → Patterns.Note → ℕ → Patterns.Note
-row_in i p w = record { column = w % 2 ^ 4; hold = p.hold; origin = Some i; start = p.start; duration = p.duration }
-
-pub row_is : (i : ℕ) (n : Note) → row_in i (pattern_of i n) ≡ (λ (w : ℕ). pattern_of i (in_column n w))
+pub row_is : (i : ℕ) (n : Note) → row_in (pattern_of i n) ≡ (λ (w : ℕ). pattern_of i (in_column n w))
 unfolding pattern_of in_column
 row_is i n = refl
 

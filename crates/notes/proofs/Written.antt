@@ -5,7 +5,7 @@ use native.Mathlib.Numerals.{add-one}
 use native.Mathlib.Omega.{arith}
 use mathlib.Core.List.{List, [], ◌∷◌, ◌++◌, map, map-append, map-map}
 use lib.ListN.{length, take, get_or, length-map}
-use lib.Seq.{take-suc, length-take-le}
+use lib.Seq.{take-suc, take_all, length-take-le}
 use Rattle.chart.specs.Layout.{note_size}
 use Rattle.chart.specs.declared.Version.TheVariants.{Two}
 use Rattle.chart.specs.declared.Note as Patterns
@@ -34,37 +34,36 @@ module _ (row : ℕ → Patterns.Note) (words : List ℕ) where
       ∙ ap (λ (v : List ℕ). sofar i ++ v) (body_one Two (row w))
 
   -- what a loop over the words keeps: the first i rows are written, and all other bytes are as they were
-  pub record Wrote (count : ℕ) (s₀ : List ℕ) (at : ℕ) (s : List ℕ) (i : ℕ) : Type 0 where
-    pub within : i ≤ count
-    pub enough : count ≤ length words
-    pub room : at + note_size * count ≤ length s₀
-    pub is : s ≡ splice s₀ at (sofar i)
+  pub record Wrote (s₀ : List ℕ) (s : List ℕ) (i : ℕ) : Type 0 where
+    pub within : i ≤ length words
+    pub room : note_size * length words ≤ length s₀
+    pub is : s ≡ splice s₀ 0 (sofar i)
     pub size : length s ≡ length s₀
 
-  pub none_yet : (count : ℕ) (s : List ℕ) (at : ℕ) → count ≤ length words → at + note_size * count ≤ length s → Wrote count s at s 0
+  pub none_yet : (s : List ℕ) → note_size * length words ≤ length s → Wrote s s 0
   unfolding body
-  none_yet count s at l h = record { within = omega arith; enough = l; room = h; is = sym (splice_none s at (omega arith)); size = refl }
+  none_yet s h = record { within = omega arith; room = h; is = sym (splice_none s 0 (omega arith)); size = refl }
 
   -- one row more
-  pub put_next : {n : Patterns.Note} {t : List ℕ} (count : ℕ) (s₀ : List ℕ) (at : ℕ) (s : List ℕ) (i : ℕ) → Wrote count s₀ at s i → i < count
-      → n ≡ row (get_or words i 0) → t ≡ splice s (at + note_size * i) (note_bytes Two n) → Wrote count s₀ at t (i + 1)
-  put_next {n} {t} count s₀ at s i w h e f =
-      let j : at + note_size * i ≡ at + length (sofar i) = ap (λ (k : ℕ). at + k) (sym (length_sofar i (omega arith))) in
-      let is : t ≡ splice s₀ at (sofar (i + 1)) =
+  pub put_next : {n : Patterns.Note} {t : List ℕ} (s₀ : List ℕ) (s : List ℕ) (i : ℕ) → Wrote s₀ s i → i < length words
+      → n ≡ row (get_or words i 0) → t ≡ splice s (note_size * i) (note_bytes Two n) → Wrote s₀ t (i + 1)
+  put_next {n} {t} s₀ s i w h e f =
+      let j : note_size * i ≡ length (sofar i) = sym (length_sofar i (omega arith)) in
+      let is : t ≡ splice s₀ 0 (sofar (i + 1)) =
       f
-      ∙ ap (λ (x : List ℕ). splice x (at + note_size * i) (note_bytes Two n)) w.is
-      ∙ splice_next s₀ at (sofar i) (at + note_size * i) (note_bytes Two n) j (omega (arith, length_note Two n))
-      ∙ ap (splice s₀ at) (ap (λ (m : Patterns.Note). sofar i ++ note_bytes Two m) e ∙ sym (sofar_more i (omega arith))) in
-      let size : length t ≡ length s₀ = ap length is ∙ length_splice s₀ at (sofar (i + 1)) (omega (arith, length_sofar (i + 1) (omega arith))) in
-      record { within = omega arith; enough = w.enough; room = w.room; is = is; size = size }
+      ∙ ap (λ (x : List ℕ). splice x (note_size * i) (note_bytes Two n)) w.is
+      ∙ splice_next s₀ 0 (sofar i) (note_size * i) (note_bytes Two n) (omega (arith, j)) (omega (arith, length_note Two n))
+      ∙ ap (splice s₀ 0) (ap (λ (m : Patterns.Note). sofar i ++ note_bytes Two m) e ∙ sym (sofar_more i (omega arith))) in
+      let size : length t ≡ length s₀ = ap length is ∙ length_splice s₀ 0 (sofar (i + 1)) (omega (arith, length_sofar (i + 1) (omega arith))) in
+      record { within = omega arith; room = w.room; is = is; size = size }
 
   -- all rows, as the notes whose patterns they are
-  pub all_written : (k : ℕ) (note : ℕ → Note) (count : ℕ) (s₀ : List ℕ) (at : ℕ) (s : List ℕ) (i : ℕ) → Wrote count s₀ at s i → count ≤ i → row ≡ (λ (w : ℕ). pattern_of k (note w))
-      → s ≡ splice s₀ at (Mania.body k (map note (take count words)))
+  pub all_written : (k : ℕ) (note : ℕ → Note) (s₀ : List ℕ) (s : List ℕ) (i : ℕ) → Wrote s₀ s i → length words ≤ i → row ≡ (λ (w : ℕ). pattern_of k (note w))
+      → s ≡ splice s₀ 0 (Mania.body k (map note words))
   unfolding Mania.body
-  all_written k note count s₀ at s i w end e =
-      let all : i ≡ count = omega arith in
+  all_written k note s₀ s i w end e =
+      let all : take i words ≡ words = take_all i words end in
       w.is
-      ∙ ap (λ (j : ℕ). splice s₀ at (sofar j)) all
-      ∙ ap (λ (f : ℕ → Patterns.Note). splice s₀ at (body Two (map f (take count words)))) e
-      ∙ ap (λ (ns : List Patterns.Note). splice s₀ at (body Two ns)) (sym (map-map (pattern_of k) note (take count words)))
+      ∙ ap (λ (ws : List ℕ). splice s₀ 0 (body Two (map row ws))) all
+      ∙ ap (λ (f : ℕ → Patterns.Note). splice s₀ 0 (body Two (map f words))) e
+      ∙ ap (λ (ns : List Patterns.Note). splice s₀ 0 (body Two ns)) (sym (map-map (pattern_of k) note words))

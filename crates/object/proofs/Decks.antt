@@ -1,6 +1,7 @@
 -- What each kind of object comes to, and that what it leaves for the next one lies on the deck. Assumes nothing.
 use Rattle.std.specs.Prelude.{Option}
 use mathlib.Core.Path.{◌≡◌, sym, subst}
+use mathlib.Core.Logic.{◌⊎◌, inl, inr}
 use Prim.Native.Nat.{ℕ, ◌^◌, ◌≤◌, ◌<◌}
 use mathlib.Core.List.{List}
 use native.Mathlib.Omega.{arith}
@@ -77,10 +78,7 @@ module _ (f : Facts) (v : PrevValues) (columns : ℕ) (o : Object) (d : Draws) (
     deck : OnDeck columns r
     deck = on_deck columns _ (end_on v columns o duration l m) d _ words 1 r h (lit≤ tt)
 
-    pub spinner_ends : o.kind ≡ Spinner duration → Ends f v columns o d words r
+    pub end_time_ends : (o.kind ≡ Spinner duration) ⊎ (o.kind ≡ Hold duration) → Ends f v columns o d words r
     unfolding note_by by_kind
-    spinner_ends e = by_kind_law (Spinner duration) e h.says deck
-
-    pub hold_ends : o.kind ≡ Hold duration → Ends f v columns o d words r
-    unfolding note_by by_kind
-    hold_ends e = by_kind_law (Hold duration) e h.says deck
+    end_time_ends (inl e) = by_kind_law (Spinner duration) e h.says deck
+    end_time_ends (inr e) = by_kind_law (Hold duration) e h.says deck

@@ -4,7 +4,7 @@ use Prim.Native.Nat.{ℕ, ◌+◌, ◌-◌, ◌≤◌}
 use native.Mathlib.Nat.{div-mul-le_self}
 use native.Mathlib.Omega.{arith}
 use lib.Ieee.Positive.{num, den, den_pos}
-use Rattle.model.specs.Limits.{most_repeats, most_notes, latest_start}
+use Rattle.model.specs.Limits.{most_repeats, latest_start}
 use Rattle.floats.specs.Laws.Wholes.{count_le}
 use Rattle.floats.specs.Laws.Values.{UpTo}
 use Rattle.floats.specs.declared.Way.TheVariants.{Even}
@@ -18,15 +18,14 @@ start_early : (o : Object) → UpTo latest_start o.start → PathObject.start_ti
 unfolding PathObject.start_time
 start_early o h = let x = o.start in count_le Even x (num x) (den x) latest_start (den_pos x) h.size h.high
 
-module _ (f : Facts) (v : PrevValues) (columns : ℕ) (o : Object) (repeats : ℕ) (distance : Option Float) (node : Option ℕ) (words : ℕ) where
-  pub ready : 1 ≤ columns → columns ≤ 9 → repeats ≤ most_repeats → UpTo latest_start o.start → most_notes ≤ words → Ready (PathObject.new f v columns o repeats distance node) words
+module _ (f : Facts) (v : PrevValues) (columns : ℕ) (o : Object) (repeats : ℕ) (distance : Option Float) (node : Option ℕ) where
+  pub ready : 1 ≤ columns → columns ≤ 9 → repeats ≤ most_repeats → UpTo latest_start o.start → Ready (PathObject.new f v columns o repeats distance node)
   unfolding PathObject.new PathObject.span_length
-  ready low high few start room = record {
+  ready low high few start = record {
     low = low;
     high = high;
     early = omega (arith, start_early o start);
     share = div-mul-le_self (PathObject.end_time f o (repeats + 1) distance - PathObject.start_time o) (repeats + 1);
     one = omega arith;
     spans = omega arith;
-    room = room;
   }

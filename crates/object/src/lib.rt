@@ -1,4 +1,7 @@
-// The notes of one object, by its kind, for the walk and for the single-object entry.
+// The notes of one object, by its kind, for the walk and for the single-object entry. The facts, the previous values, the columns and the object are four
+// parameters, here and where these functions are used, as the definitions take them; so the
+// bounds of the deck stand in the two contracts below. Both buffers are lent by whoever calls, since there is no heap. They are two parameters: circles and
+// spinners use one, and a struct of both would be taken apart at once.
 #![tactic(auto)]
 
 ghost use Rattle.std.specs.Prelude.{◌≡◌, ◌^◌, ◌≤◌, ◌<◌, length};
@@ -12,8 +15,10 @@ ghost use Rattle.circle_notes.specs.Answers.{circle_at};
 ghost use Rattle.slider_notes.specs.Words.{note_of_word};
 ghost use Rattle.object.specs.Contract.{Asks, Ends};
 
+use end_time_object::generator::EndTimeObjectPatternGenerator;
 use mania::{Facts, PrevValues};
 use model::{Kind, Object};
+use path_object::ready::ReadySlider;
 use pattern::Made;
 use random::{Draws, Outcome};
 
@@ -31,7 +36,9 @@ fn generate_circle(
     ensures { Generates (circle_at o.start) words.new (on (HitObject.generate (HitObject.new f v columns o)) d) 14 result }
 {
     let g = hit_object::new(f, v, columns, o);
-    generators::circle::generate_owned(d, g, words, spare)
+    let circle = circle_notes::circle::Circle { g };
+    let ready = hit_object::ready::ReadyCircle { circle };
+    generators::generate_owned(d, ready, words, spare)
 }
 
 // A slider's notes.
@@ -51,7 +58,7 @@ fn generate_slider(
     ensures { Generates note_of_word words.new (on (PathObject.generate (PathObject.new f v columns o repeats distance node)) d) most_notes result }
 {
     let g = slider_times::new(f, v, columns, o, repeats, distance, node);
-    generators::slider::generate_owned(d, g, words, spare)
+    generators::generate_owned(d, ReadySlider { g }, words, spare)
 }
 
 // By the object's kind, as `convert` goes. The notes stand in `words` in walk order; `spare` is working space.
@@ -67,19 +74,21 @@ pub fn generate(
     requires { Asks v columns o (length words.old) (length spare.old) }
     ensures { Ends f v columns o d words.new result }
 {
-    let kind = o.kind;
-    match kind {
+    match o.kind {
         Kind::Circle => generate_circle(f, v, columns, o, words, spare, d),
         Kind::Slider {
             repeats,
             distance,
             node,
         } => generate_slider(f, v, columns, o, repeats, distance, node, words, spare, d),
-        Kind::Spinner(duration) => generators::spinner::generate_owned(
-            d, v, columns, o, duration, words, spare,
-        ),
-        Kind::Hold(duration) => generators::spinner::generate_owned(
-            d, v, columns, o, duration, words, spare,
-        ),
+        Kind::Spinner(duration) | Kind::Hold(duration) => {
+            let g = EndTimeObjectPatternGenerator {
+                v,
+                columns,
+                o,
+                duration,
+            };
+            generators::generate_owned(d, g, words, spare)
+        }
     }
 }

@@ -1,16 +1,17 @@
 // An object's values from the numbers that a host lends, and its answer as numbers. Assumes nothing.
 #![tactic(auto)]
 
-ghost use Rattle.std.specs.Prelude.{◌≡◌, List, ℕ};
+ghost use Rattle.std.specs.Prelude.{◌≡◌, List, ℕ, cond, Some, None};
 ghost use Rattle.single.specs.Ends.{single_end};
-ghost use Rattle.object_numbers.specs.Single.{saturate8, saturate16, is_set, distance_of, node_of, kind_of, object_of, facts_of, stair_of, previous_of, stair_number, told};
+ghost use Rattle.object_numbers.specs.Single.{saturate8, saturate16, is_set, kind_of, object_of, facts_of, stair_of, previous_of, told};
 
 use mania::{Facts, PrevValues, Stair};
 use model::{Kind, Object, Position};
 use random::Random;
 use single::{Converted, ObjectRefused};
 
-// An answer: the refusal's number, or 0, and what the outputs get.
+// An answer: the refusal's number, or 0, and what the outputs get. Numbers, and 0 for no refusal: what the C interface hands over and the recorded
+// lists hold.
 #[derive(Clone, Copy)]
 pub struct Told {
     pub number: u32,
@@ -26,36 +27,31 @@ pub struct Told {
 pub fn saturate_u8(n: u32) -> u8
     ensures { result ≡ saturate8 n }
 {
-    n.min(u32::from(u8::MAX)) as u8
+    u8::try_from(n).unwrap_or(u8::MAX)
 }
 
 // The same for 16 bits. One function over both would be longer than the two lines.
 pub fn saturate_u16(n: u32) -> u16
     ensures { result ≡ saturate16 n }
 {
-    n.min(u32::from(u16::MAX)) as u16
+    u16::try_from(n).unwrap_or(u16::MAX)
 }
 
+// A flag of the C interface: set where it is not 0.
 fn is_set(n: u32) -> bool
     ensures { result ≡ is_set n }
 {
     n != 0
 }
 
-pub fn distance_of(given: u32, d: f64) -> Option<f64>
-    ensures { result ≡ distance_of given d }
+// A value that may be absent is a flag and a number in the C interface. Of a distance this is `distance_of`, of a saturated sound `node_of`.
+pub fn given<T: Copy>(flag: u32, value: T) -> Option<T>
+    ensures { result ≡ cond (is_set flag) (Some value) None }
 {
-    is_set(given).then_some(d)
+    is_set(flag).then_some(value)
 }
 
-pub fn node_of(given: u32, sound: u32) -> Option<u8>
-    ensures { result ≡ node_of given (saturate8 sound) }
-{
-    let sound = saturate_u8(sound);
-    is_set(given).then_some(sound)
-}
-
-// A kind, and whether something is given, are numbers in the C interface. A number that is no kind's gives a slider that is refused by 6.
+// A kind is a number in the C interface. A number that is no kind's gives a slider that is refused by 6.
 pub fn kind_of(
     kind: u32,
     repeats: u32,
@@ -83,6 +79,7 @@ pub fn kind_of(
     }
 }
 
+// This and the functions below have one parameter for each number of `sumopine_object`.
 pub fn object_of(x: f32, y: f32, start: f64, sound: u32, kind: Kind) -> Object
     ensures { result ≡ object_of x y start (saturate8 sound) kind }
 {
@@ -143,13 +140,8 @@ pub fn previous_of(time: f64, x: f32, y: f32, mask: u32, last: u32, reverse: u32
     }
 }
 
-fn stair_number(stair: Stair) -> u32
-    ensures { result ≡ stair_number stair }
-{
-    stair as u32
-}
-
-// The answer's numbers: after a refusal zeros, with its number and the state.
+// The answer's numbers: after a refusal zeros, with its number and the state. No `From`: the contract would stand apart in a ghost member, and the call
+// would be no shorter.
 pub fn tell(end: Result<Converted, ObjectRefused>) -> Told
     ensures { (notes : List ℕ) → result ≡ told (single_end notes end).answer }
 {
@@ -159,7 +151,7 @@ pub fn tell(end: Result<Converted, ObjectRefused>) -> Told
             count: made.count,
             mask: made.mask as u32,
             last: made.last as u32,
-            stair: stair_number(made.stair),
+            stair: made.stair as u32,
             state: made.random,
             draws: made.draws,
         },

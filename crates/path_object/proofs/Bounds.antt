@@ -16,8 +16,8 @@ few_spans length spans h k =
     omega arith
 
 -- what the generators ask of more than one column
-pub fits : (g : PathObjectPatternGenerator) (words : ℕ) → Ready g words → g.end ≤ latest → (g.columns ≡ 1 → ⊥) → Fits g words
-fits g words r l n =
+pub fits : (g : PathObjectPatternGenerator) → Ready g → g.end ≤ latest → (g.columns ≡ 1 → ⊥) → Fits g
+fits g r l n =
     let once : 1 * g.length ≤ g.spans * g.length = mul-le-mul_right g.length r.one in
     let all : (g.spans + 1) * g.length ≡ g.spans * g.length + g.length = add-mul g.spans 1 g.length ∙ ap (λ (x : ℕ). g.spans * g.length + x) (one-mul g.length) in
     let turn : g.length * g.spans ≡ g.spans * g.length = mul_comm g.length g.spans in
@@ -29,7 +29,6 @@ fits g words r l n =
       ends = omega arith;
       one = r.one;
       spans = r.spans;
-      room = r.room;
     }
   where
     two : (c : ℕ) → 1 ≤ c → (c ≡ 1 → ⊥) → 2 ≤ c

@@ -1,6 +1,8 @@
 // pattern_generator/path_object.rs: the patterns of a slider. Each function is a rule of mania/specs/PathObject.antt, and writes its notes into the
-// lent buffer.
+// lent buffer, whose room it asks, as slider_patterns does.
 #![tactic(auto)]
+
+pub mod ready;
 
 ghost use Rattle.std.specs.Prelude.{◌≡◌, leb, ltb, ◌-◌, ◌*◌, ◌≤◌, ◌<◌, length, if◌then◌else◌};
 ghost use Rattle.model.specs.Limits.{most_notes};
@@ -11,14 +13,14 @@ ghost use Rattle.mania.specs.PathObject as Path;
 ghost use Rattle.pattern.specs.Answers.{Generates};
 ghost use Rattle.slider_notes.specs.Words.{note_of_word};
 ghost use Rattle.slider_notes.specs.Answers.{Places};
-ghost use Rattle.slider_patterns.specs.Parts.{Fits};
-ghost use Rattle.path_object.specs.Parts.{Ready};
 
 use mania::PathObjectPatternGenerator;
 use model::limits::LATEST_END;
 use pattern::{EMPTY, Made, Pattern};
 use random::{Draws, Outcome, Refused};
+use ready::ReadySlider;
 use rules::Refusal;
+use slider_patterns::slider::Slider;
 use slider_times::Chance;
 
 // ---- the branches in their order
@@ -33,29 +35,26 @@ fn tile_limit(columns: u8) -> u32
 }
 
 // `generate_` with more than one span.
-pub fn generate_spans(
-    d: Draws,
-    g: PathObjectPatternGenerator,
-    words: &mut [u64],
-) -> Outcome<Pattern>
-    requires { Fits g (length words.old) × (g.length * g.spans ≤ g.end - g.start) }
-    ensures { Places words.new (on (Path.generate_spans g) d) most_notes result }
+pub fn generate_spans(d: Draws, slider: Slider, words: &mut [u64]) -> Outcome<Pattern>
+    requires { (most_notes ≤ length words.old) × (slider.g.length * slider.g.spans ≤ slider.g.end - slider.g.start) }
+    ensures { Places words.new (on (Path.generate_spans slider.g) d) most_notes result }
 {
+    let g = slider.g;
     let span = g.length;
     let difficulty = g.difficulty;
     if span <= 90 {
-        return slider_patterns::generate_random_hold_notes(d, g, words, 1);
+        return slider_patterns::generate_random_hold_notes(d, slider, words, 1);
     }
     if span <= 120 {
         let flags = g.flags | pattern::FORCE_NOT_STACK;
-        return slider_patterns::generate_random_notes(d, g, words, flags, g.spans + 1);
+        return slider_patterns::generate_random_notes(d, slider, words, flags, g.spans + 1);
     }
     if span <= 160 {
-        return slider_patterns::generate_stair(d, g, words);
+        return slider_patterns::generate_stair(d, slider, words);
     }
     let fast = (span <= 200) & (3.0 < difficulty);
     if fast {
-        return slider_patterns::generate_random_multiple_notes(d, g, words);
+        return slider_patterns::generate_random_multiple_notes(d, slider, words);
     }
     let lasts = g.end.saturating_sub(g.start);
     if 4000 <= lasts {
@@ -64,26 +63,25 @@ pub fn generate_spans(
             p3: 0.0,
             p4: 0.0,
         };
-        return slider_patterns::generate_n_random_notes(d, g, words, chance);
+        return slider_patterns::generate_n_random_notes(d, slider, words, chance);
     }
     let limit = tile_limit(g.columns);
     let tiled = (400 < span) & (g.spans < limit);
     if tiled {
-        return slider_patterns::generate_tiled_hold_notes(d, g, words);
+        return slider_patterns::generate_tiled_hold_notes(d, slider, words);
     }
-    slider_patterns::generate_hold_and_normal_notes(d, g, words)
+    slider_patterns::generate_hold_and_normal_notes(d, slider, words)
 }
 
 // The flags of one short span: `FORCE_NOT_STACK` unless the previous pattern fills the deck.
 fn span_flags(g: PathObjectPatternGenerator) -> u16
     ensures { result ≡ (if ltb (ones g.mask) g.columns then g.flags ⊔ₜ force_not_stack else g.flags) }
 {
-    let flags = g.flags;
-    let taken = pattern::column_count(g.mask);
-    if taken < (g.columns as u32) {
-        return flags | pattern::FORCE_NOT_STACK;
+    if pattern::leaves_some(g.columns, g.mask) {
+        g.flags | pattern::FORCE_NOT_STACK
+    } else {
+        g.flags
     }
-    flags
 }
 
 // The notes of one short span.
@@ -94,57 +92,60 @@ fn span_notes(length: u32) -> u32
 }
 
 // `generate_` with one span.
-pub fn generate_span(d: Draws, g: PathObjectPatternGenerator, words: &mut [u64]) -> Outcome<Pattern>
-    requires { Fits g (length words.old) }
-    ensures { Places words.new (on (Path.generate_span g) d) most_notes result }
+pub fn generate_span(d: Draws, slider: Slider, words: &mut [u64]) -> Outcome<Pattern>
+    requires { most_notes ≤ length words.old }
+    ensures { Places words.new (on (Path.generate_span slider.g) d) most_notes result }
 {
+    let g = slider.g;
     let span = g.length;
     if span <= 110 {
         let flags = span_flags(g);
         let n = span_notes(span);
-        return slider_patterns::generate_random_notes(d, g, words, flags, n);
+        return slider_patterns::generate_random_notes(d, slider, words, flags, n);
     }
     let rare = pattern::has_type(g.flags, pattern::LOW_PROBABILITY);
     let chance = slider_times::chances_by(g.difficulty, rare);
-    slider_patterns::generate_n_random_notes(d, g, words, chance)
+    slider_patterns::generate_n_random_notes(d, slider, words, chance)
 }
 
 // `generate_`
-pub fn generate_core(d: Draws, g: PathObjectPatternGenerator, words: &mut [u64]) -> Outcome<Pattern>
-    requires { Ready g (length words.old) × (g.end ≤ Path.latest) }
-    ensures { Places words.new (on (Path.generate_core g) d) most_notes result }
+pub fn generate_core(d: Draws, ready: ReadySlider, words: &mut [u64]) -> Outcome<Pattern>
+    requires { (most_notes ≤ length words.old) × (ready.g.end ≤ Path.latest) }
+    ensures { Places words.new (on (Path.generate_core ready.g) d) most_notes result }
 {
+    let g = ready.g;
     let columns = g.columns;
     let spans = g.spans;
     if columns == 1 {
         let p = slider_notes::put_slider_note(words, EMPTY, 0, g.start, g.end);
         return Ok((p, d));
     }
+    let slider = Slider { g };
     if 1 < spans {
-        return generate_spans(d, g, words);
+        return generate_spans(d, slider, words);
     }
-    generate_span(d, g, words)
+    generate_span(d, slider, words)
 }
 
 // `generate`. The notes stand in `words` in walk order; `spare` is working space.
 pub fn generate_by_value(
     d: Draws,
-    g: PathObjectPatternGenerator,
+    ready: ReadySlider,
     words: &mut [u64],
     spare: &mut [u64],
 ) -> Outcome<Made>
-    requires { Ready g (length spare.old) × (most_notes ≤ length words.old) }
-    ensures { Generates note_of_word words.new (on (Path.generate g) d) most_notes result }
+    requires { (most_notes ≤ length spare.old) × (most_notes ≤ length words.old) }
+    ensures { Generates note_of_word words.new (on (Path.generate ready.g) d) most_notes result }
 {
-    let end = g.end;
+    let end = ready.g.end;
     if LATEST_END < end {
         return Err(Refused {
             refusal: Refusal::SliderEnd,
             draws: d,
         });
     }
-    let (p, next) = generate_core(d, g, spare)?;
+    let (p, next) = generate_core(d, ready, spare)?;
     let pattern = slider_notes::split(spare, p, end, words);
-    let stair = g.stair;
+    let stair = ready.g.stair;
     Ok((Made { pattern, stair }, next))
 }

@@ -5,3 +5,4 @@ pub mod Bounds
 pub mod Words
 pub mod Tables
 pub mod Exits
+pub mod Mapped

@@ -1,7 +1,9 @@
 // Masks of columns, columns of positions, counts of notes and the search for a column, shared by the three generators.
 #![tactic(auto)]
 
-ghost use Rattle.std.specs.Prelude.{◌≡◌, ◌-◌, ◌^◌, ◌≤◌, ◌<◌, length};
+pub mod search;
+
+ghost use Rattle.std.specs.Prelude.{◌≡◌, ◌-◌, ◌^◌, ◌≤◌, ◌<◌, length, ltb};
 ghost use Rattle.std.specs.Int.Bits.{bit_or};
 ghost use Rattle.std.specs.Int.Count.{ones};
 ghost use Rattle.random.specs.Play.{on, searched};
@@ -18,6 +20,7 @@ use mania::{Next, Stair};
 use model::limits::SEARCH_LIMIT;
 use random::{Draws, Outcome, Refused};
 use rules::Refusal;
+use search::Search;
 
 // A column that a search found, and how many draws the search made.
 #[derive(Clone, Copy)]
@@ -35,7 +38,7 @@ pub struct Pattern {
     pub count: usize,
 }
 
-// The pattern without notes.
+// The pattern without notes. A constant and no `Default`: proofs compute it, and would have to cite what a call gave.
 pub const EMPTY: Pattern = Pattern {
     mask: 0,
     last: 0,
@@ -49,7 +52,7 @@ pub struct Made {
     pub stair: Stair,
 }
 
-// ---- the bits of a convert type
+// ---- the bits of a convert type: numbers, as the definitions have them
 
 pub const FORCE_STACK: u16 = 1;
 
@@ -95,17 +98,12 @@ pub fn is_free(mask: u16, c: u8) -> bool
     (mask >> c) & 1 == 0
 }
 
-// Whether a column from lower up to, and without, upper is free.
+// Whether a column in lower..upper is free.
 pub fn any_free(mask: u16, lower: u8, upper: u8) -> bool
     requires { (lower ≤ upper) × (upper ≤ 16) }
     ensures { result ≡ any_free mask lower (upper - lower) }
 {
-    for c in lower..upper {
-        if is_free(mask, c) {
-            return true;
-        }
-    }
-    false
+    (lower..upper).any(|c| is_free(mask, c))
 }
 
 // A mask with one column more.
@@ -123,6 +121,13 @@ pub fn column_count(mask: u16) -> u32
     u16::count_ones(mask)
 }
 
+// Whether a mask leaves a column of the deck.
+pub fn leaves_some(columns: u8, mask: u16) -> bool
+    ensures { result ≡ ltb (ones mask) columns }
+{
+    column_count(mask) < columns as u32
+}
+
 // ---- columns
 
 // The first column that a search may find.
@@ -132,14 +137,21 @@ pub fn random_start(columns: u8) -> u8
     if columns == 8 { 1 } else { 0 }
 }
 
+// How many of the columns that a search may find a mask leaves.
+pub fn room(columns: u8, mask: u16) -> u32
+    ensures { result ≡ columns - random_start columns - ones mask }
+{
+    let deck = columns - random_start(columns);
+    (deck as u32).saturating_sub(column_count(mask))
+}
+
 // The column of a position.
 pub fn column(x: f32, total: u8) -> u8
     requires { 0 < total }
     ensures { result ≡ ManiaObject.column x total }
 {
     let n = floats::to_count(x / (512.0 / (total as f32)), Way::Floor);
-    let last = total - 1;
-    if n < last as u32 { n as u8 } else { last }
+    n.min(u32::from(total - 1)) as u8
 }
 
 // The column of a position; of 8 columns one of the last seven.
@@ -154,7 +166,7 @@ pub fn get_column(x: f32, columns: u8) -> u8
     }
 }
 
-// A drawn column from lower up to, and without, upper.
+// A drawn column in lower..upper: two bounds, as the Rust and the definitions have them. `Search` holds them with their facts where a search passes them on.
 pub fn get_random_column(d: Draws, lower: u8, upper: u8) -> Outcome<u8>
     requires { (lower < upper) × (upper ≤ 9) }
     ensures { number result ≡ on (get_random_column lower upper) d }
@@ -165,7 +177,7 @@ pub fn get_random_column(d: Draws, lower: u8, upper: u8) -> Outcome<u8>
 
 // ---- counts of notes
 
-// How many notes a number from 0 to 1 means.
+// How many notes a number from 0 to 1 means. The chances one by one, as the Rust's function and the definition take them.
 pub fn note_count(p2: f64, p3: f64, p4: f64, p5: f64, p6: f64, val: f64) -> u8
     ensures { result ≡ note_count p2 p3 p4 p5 p6 val }
 {
@@ -208,14 +220,13 @@ pub fn next_column(columns: u8, c: u8) -> u8
 }
 
 // Steps by one until a free column comes, at most once round the deck.
-fn step_to(d: Draws, columns: u8, taken: u16, initial: u8) -> Outcome<Found>
-    requires { (initial < columns) × (columns ≤ 9) }
-    ensures { search_end result ≡ on (step_to columns columns taken initial) d }
+fn step_to(d: Draws, s: Search) -> Outcome<Found>
+    ensures { search_end result ≡ on (step_to s.columns s.columns s.taken s.initial) d }
 {
-    let mut column = initial;
-    for _ in 0..columns {
-        column = next_column(columns, column);
-        if is_free(taken, column) {
+    let mut column = s.initial;
+    for _ in 0..s.columns {
+        column = next_column(s.columns, column);
+        if is_free(s.taken, column) {
             return Ok((Found { column, made: 0 }, d));
         }
     }
@@ -233,19 +244,16 @@ fn search_refused(refusal: Refusal, rest: Draws, made: u32) -> Refused
     Refused { refusal, draws }
 }
 
-// Draws from lower up to, and without, upper until a free column comes, and counts its draws: where it needs one beyond the limit, 16.
-fn draw_to(d: Draws, lower: u8, upper: u8, taken: u16) -> Outcome<Found>
-    requires { (lower < upper) × (upper ≤ 9) }
-    ensures { search_end result ≡ on (draw_to lower upper taken) d }
+// Draws in lower..upper until a free column comes, and counts its draws. `LongSearch` where SEARCH_LIMIT of them found none.
+fn draw_to(d: Draws, s: Search) -> Outcome<Found>
+    ensures { search_end result ≡ on (draw_to s.lower s.upper s.taken) d }
 {
     let mut rest = d;
     for made in 0..SEARCH_LIMIT {
-        let Ok((v, next)) = random::draw(rest) else {
-            return Err(search_refused(Refusal::NoDrawLeft, rest, made));
-        };
+        let (v, next) = random::draw(rest).map_err(|r| search_refused(r.refusal, r.draws, made))?;
         rest = next;
-        let column = random::next_int_range(v, lower, upper);
-        if is_free(taken, column) {
+        let column = random::next_int_range(v, s.lower, s.upper);
+        if is_free(s.taken, column) {
             let made = made + 1;
             let after = random::after_search(rest, made);
             return Ok((Found { column, made }, after));
@@ -254,49 +262,32 @@ fn draw_to(d: Draws, lower: u8, upper: u8, taken: u16) -> Outcome<Found>
     Err(search_refused(Refusal::LongSearch, rest, SEARCH_LIMIT))
 }
 
-// How a search goes on from a column that is taken.
-fn search_on(
-    d: Draws,
-    next: Next,
-    columns: u8,
-    c: u8,
-    lower: u8,
-    upper: u8,
-    taken: u16,
-) -> Outcome<Found>
-    requires { (c < columns) × (columns ≤ 9) × (lower < upper) × (upper ≤ 9) }
-    ensures { search_end result ≡ on (search_on next columns c lower upper taken) d }
+// How a search goes on from a column that is taken. `Next` is data: a circle's flags choose it at run time, and the rule keeps and matches it too, so
+// that a function for each, or a closure, would be no plainer.
+fn search_on(d: Draws, s: Search) -> Outcome<Found>
+    ensures { search_end result ≡ on (search_on s.next s.columns s.initial s.lower s.upper s.taken) d }
 {
-    match next {
-        Next::Draw => draw_to(d, lower, upper, taken),
-        Next::Step => step_to(d, columns, taken, c),
+    match s.next {
+        Next::Draw => draw_to(d, s),
+        Next::Step => step_to(d, s),
     }
 }
 
-// The column itself where it is free; else, where lower up to upper has a free one, one by draws or by steps.
-pub fn column_search(
-    d: Draws,
-    next: Next,
-    columns: u8,
-    initial: u8,
-    lower: u8,
-    upper: u8,
-    taken: u16,
-) -> Outcome<Found>
-    requires { (initial < columns) × (columns ≤ 9) × (lower < upper) × (upper ≤ 9) }
-    ensures { search_end result ≡ on (column_search next columns initial lower upper taken) d }
+// `initial` where it is free; else, where lower..upper has a free column, one by draws or by steps.
+pub fn column_search(d: Draws, s: Search) -> Outcome<Found>
+    ensures { search_end result ≡ on (column_search s.next s.columns s.initial s.lower s.upper s.taken) d }
 {
-    if is_free(taken, initial) {
+    if is_free(s.taken, s.initial) {
         return Ok((
             Found {
-                column: initial,
+                column: s.initial,
                 made: 0,
             },
             d,
         ));
     }
-    if any_free(taken, lower, upper) {
-        return search_on(d, next, columns, initial, lower, upper, taken);
+    if any_free(s.taken, s.lower, s.upper) {
+        return search_on(d, s);
     }
     Err(Refused {
         refusal: Refusal::NoColumn,
@@ -306,21 +297,12 @@ pub fn column_search(
 
 // The column of a search. The tally has its draws where no search before made more. A free column is tested here too, so that the compiler takes that
 // test into each caller and calls only for a search that goes on.
-pub fn find_available_column(
-    d: Draws,
-    next: Next,
-    columns: u8,
-    initial: u8,
-    lower: u8,
-    upper: u8,
-    taken: u16,
-) -> Outcome<u8>
-    requires { (initial < columns) × (columns ≤ 9) × (lower < upper) × (upper ≤ 9) }
-    ensures { number result ≡ on (find_available_column next columns initial lower upper taken) d }
+pub fn find_available_column(d: Draws, s: Search) -> Outcome<u8>
+    ensures { number result ≡ on (find_available_column s.next s.columns s.initial s.lower s.upper s.taken) d }
 {
-    if is_free(taken, initial) {
-        return Ok((initial, d));
+    if is_free(s.taken, s.initial) {
+        return Ok((s.initial, d));
     }
-    let (found, after) = column_search(d, next, columns, initial, lower, upper, taken)?;
+    let (found, after) = column_search(d, s)?;
     Ok((found.column, after))
 }

@@ -31,7 +31,7 @@ pub struct Draws {
     pub tally: Tally,
 }
 
-// A refusal, and the draws as they are then.
+// A refusal, and the draws as they are then. Written out where a rule refuses: a function would have a contract as long.
 #[derive(Clone, Copy)]
 pub struct Refused {
     pub refusal: Refusal,
@@ -40,13 +40,6 @@ pub struct Refused {
 
 // What a rule gives: a value, and the draws after it; or a refusal.
 pub type Outcome<T> = Result<(T, Draws), Refused>;
-
-// A state, and the value of the step that made it.
-#[derive(Clone, Copy)]
-struct Stepped {
-    random: Random,
-    value: u32,
-}
 
 // The state that a seed gives.
 pub fn from_seed(seed: u32) -> Random
@@ -89,12 +82,12 @@ pub fn next(random: &mut Random) -> u32
     low_bits(s)
 }
 
-// Lends a state for one step.
-fn lent_step(mut random: Random) -> Stepped
-    ensures { (result.random ≡ next random) × (result.value ≡ low (next random)) }
+// Lends a state for one step. A function of its own: it owns the state that `next` alters where it is lent.
+fn lent_step(mut random: Random) -> (Random, u32)
+    ensures { (result.0 ≡ next random) × (result.1 ≡ low (next random)) }
 {
     let value = next(&mut random);
-    Stepped { random, value }
+    (random, value)
 }
 
 // One draw: a step, where one is left. Its value is below 2^31.
@@ -109,14 +102,13 @@ pub fn draw(d: Draws) -> Outcome<u32>
             draws: d,
         });
     }
-    let s = lent_step(d.random);
-    let random = s.random;
+    let (random, value) = lent_step(d.random);
     let longest = tally.longest;
     let tally = Tally {
         left: left - 1,
         longest,
     };
-    Ok((s.value, Draws { random, tally }))
+    Ok((value, Draws { random, tally }))
 }
 
 // The draws after a search that made `made` of them: the longest search is raised.
@@ -124,11 +116,10 @@ pub fn after_search(d: Draws, made: u32) -> Draws
     ensures { result ≡ searched made d }
 {
     let random = d.random;
-    let tally = d.tally;
-    let left = tally.left;
-    let before = tally.longest;
-    let longest = if before < made { made } else { before };
-    let tally = Tally { left, longest };
+    let tally = Tally {
+        left: d.tally.left,
+        longest: d.tally.longest.max(made),
+    };
     Draws { random, tally }
 }
 

@@ -30,7 +30,7 @@ pub struct Places {
     pub objects: usize,
 }
 
-// This field and the next, by the range of each.
+// This field and the next, by the range of each: a function for each, since its contract names the field.
 fn setting_refusal(s: &[u8], at: usize) -> Result<(), Refusal>
     requires { at ≤ 1000000000 }
     ensures { refusal_code result ≡ field_refusal s.now (setting s.now at) }

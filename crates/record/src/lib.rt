@@ -1,6 +1,7 @@
 // The job record: its definition, and the checks and values of its header and its lists.
 #![tactic(auto)]
 
+pub mod entries;
 pub mod header;
 pub mod layout;
 pub mod objects;
@@ -11,7 +12,7 @@ use header::{Counts, Places};
 use model::Settings;
 
 // What the check of an accepted record finds: key choice, settings, how many entries each list has and where it starts, the first and the last object's
-// start (0 without objects), and how many objects are sliders and spinners.
+// start, and how many objects are sliders and spinners. The two starts are no `Option`: both are 0 without objects, as the difficulty takes them.
 #[derive(Clone, Copy)]
 pub struct Summary {
     pub keys: u8,

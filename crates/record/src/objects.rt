@@ -1,7 +1,7 @@
 // What is read of objects.
 use model::Object;
 
-// An object, and the bit at which the next one starts.
+// An object, and the bit at which the next one starts: a place and no slice, since objects do not start at bytes.
 #[derive(Clone, Copy)]
 pub struct ReadObject {
     pub object: Object,

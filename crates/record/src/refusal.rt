@@ -1,4 +1,5 @@
 // The conditions of a record's fields, and the floats that they hold. What refuses a record is its first condition, in record order, that applies.
+// A field's bytes and its bit are no struct: the bit moves on with each field, so that the struct would be built anew for each.
 ghost use Rattle.std.specs.Prelude.{◌≡◌, ◌≤◌, ℕ, not};
 ghost use Rattle.std.proofs.Common.{lit≤};
 ghost use Rattle.rules.specs.Coded.{code, refusal_code};
@@ -11,7 +12,7 @@ use bits::{is_short, read_bits, read32};
 use floats::{Float, pattern, within};
 use rules::Refusal;
 
-// The refusal under the condition t.
+// The refusal under the condition t: `rules::refuse` in the words of a record's conditions, which the laws of rows cite.
 #[tactic(auto, using(crate::specs::Laws::Row::gives_yes, crate::specs::Laws::Row::gives_no))]
 pub fn refuse(t: bool, refusal: Refusal) -> Result<(), Refusal>
     ensures { refusal_code result ≡ (t gives code refusal) }

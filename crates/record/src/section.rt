@@ -1,21 +1,23 @@
-// The four lists whose entries have one width: breaks, timing points, difficulty points and effect points.
+// The four lists whose entries have one width: breaks, timing points, difficulty points and effect points. The functions of a field or an entry take the
+// bytes and its bit, and no struct of the two: the bit moves on with each, so that the struct would be built anew for each.
 ghost use Rattle.std.specs.Prelude.{◌≡◌, false, ◌≤◌};
 ghost use Rattle.std.specs.Float.{binary64};
 ghost use Rattle.std.specs.Float.Ieee.{round};
 ghost use Rattle.rules.specs.Coded.{refusal_code};
-ghost use Rattle.model.specs.Limits.{most_entries};
 ghost use Rattle.model.specs.Totals.{break_time};
 ghost use Rattle.record.specs.Refusal.{field_refusal};
 ghost use Rattle.record.specs.Section.{width_of, time_field, beat_field, velocity_field, point_time, entry_refusal, section_refusal, no_time, breaks};
 
+use crate::entries::Entries;
 use crate::layout;
 use crate::refusal::{f64_at, float_refusal, refuse, whole};
 use model::limits;
 use rules::Refusal;
 
-// Below every time.
+// Below every time. No `Option`: the test that each entry has then serves the first.
 const BEFORE_ALL: f64 = limits::LEAST_TIME - 1.0;
 
+// An enum: one loop and one definition of an entry, by its list.
 #[derive(Clone, Copy)]
 pub enum Section {
     Breaks,
@@ -24,7 +26,7 @@ pub enum Section {
     EffectPoints,
 }
 
-// The fields of the lists, each by its range.
+// The fields of the lists, each by its range. As in header.rt, a function for each, since its contract names the field.
 fn time_refusal(s: &[u8], at: usize) -> Result<(), Refusal>
     requires { at ≤ 1000000000 }
     ensures { refusal_code result ≡ field_refusal s.now (time_field s.now at) }
@@ -114,16 +116,16 @@ impl Section {
         }
     }
 
-    // `count` entries from bit `at` on.
+    // All entries of a list. `here` goes along, as the definition goes from an entry to the next.
     #[tactic(auto, using(crate::specs::Laws::Entries::list_stop, crate::specs::Laws::Entries::list_done))]
-    pub fn refusal(self, s: &[u8], at: usize, count: usize) -> Result<(), Refusal>
-        requires { (at ≤ 100000000) × (count ≤ most_entries) }
-        ensures { refusal_code result ≡ section_refusal self s.now at count }
+    pub fn refusal(self, list: Entries) -> Result<(), Refusal>
+        ensures { refusal_code result ≡ section_refusal self list.entry.s.now list.entry.at list.entry.count }
     {
+        let s = list.s;
         let width = self.width();
-        let mut here = at;
+        let mut here = list.at;
         let mut before: f64 = BEFORE_ALL;
-        for _ in 0..count {
+        for _ in 0..list.count {
             self.entry_refusal(s, here, before)?;
             before = f64_at(s, here);
             here += width;
@@ -132,14 +134,14 @@ impl Section {
     }
 }
 
-// How long `count` breaks from bit `at` on last together, summed in order from 0.
-pub fn total_break_time(s: &[u8], at: usize, count: usize) -> f64
-    requires { (at ≤ 100000000) × (count ≤ most_entries) }
-    ensures { result ≡ break_time (round binary64 false 0 1) (breaks s.now at count) }
+// How long a list's breaks last together, summed in order from 0. `here` goes along, as the definition goes.
+pub fn total_break_time(list: Entries) -> f64
+    ensures { result ≡ break_time (round binary64 false 0 1) (breaks list.entry.s.now list.entry.at list.entry.count) }
 {
-    let mut here = at;
+    let s = list.s;
+    let mut here = list.at;
     let mut sum: f64 = 0.0;
-    for _ in 0..count {
+    for _ in 0..list.count {
         let end = f64_at(s, here + layout::SECOND);
         let start = f64_at(s, here);
         sum = sum + (end - start);

@@ -1,9 +1,9 @@
-// Objects: their check, and their values.
+// Objects: their check, and their values. The functions of a field or an object take the bytes and its bit, and no struct of the two: the bit moves on
+// with each, so that the struct would be built anew for each.
 #![tactic(auto)]
 
 ghost use Rattle.std.specs.Prelude.{◌≡◌, ◌≤◌, ◌+◌, ◌*◌, eqb};
 ghost use Rattle.rules.specs.Coded.{refusal_code};
-ghost use Rattle.model.specs.Limits.{most_entries};
 ghost use Rattle.bits.specs.Field.{bits};
 ghost use Rattle.record.specs.Layout as At;
 ghost use Rattle.record.specs.Refusal.{field_refusal, fields_refusal};
@@ -13,6 +13,7 @@ ghost use Rattle.record_object.specs.Shape.{number};
 
 use bits::{read_bits, read_flag};
 use model::{Kind, Object, Position, limits};
+use record::entries::Entries;
 use record::layout;
 use record::objects::{ReadObject, Scanned};
 use record::refusal::{f32_at, f64_at, float_refusal, refuse, whole};
@@ -152,7 +153,7 @@ pub fn read_object(part: &[u8], at: usize) -> ReadObject
     ReadObject { object, next }
 }
 
-// A start or a duration, by its range; so below for x and y, and a distance.
+// A start or a duration, by its range; so below for a distance, and x and y. A function for each, since its contract names the field.
 fn span_refusal(s: &[u8], at: usize) -> Result<(), Refusal>
     requires { at ≤ 1000000000 }
     ensures { refusal_code result ≡ field_refusal s.now (span_field s.now at) }
@@ -244,15 +245,15 @@ fn object_refusal(s: &[u8], at: usize, before: f64) -> Result<(), Refusal>
     kind_refusal(s, at + layout::ADDED, shape_at(s, at))
 }
 
-// `count` objects from bit `at` on.
-pub fn scan_objects(s: &[u8], at: usize, count: usize) -> Result<Scanned, Refusal>
-    requires { (at ≤ 100000000) × (count ≤ most_entries) }
-    ensures { (coded result ≡ scan s.now at count) × EndBy (at + At.longest * count) result }
+// All objects of a list.
+pub fn scan_objects(list: Entries) -> Result<Scanned, Refusal>
+    ensures { (coded result ≡ scan list.entry.s.now list.entry.at list.entry.count) × EndBy (list.entry.at + At.longest * list.entry.count) result }
 {
-    let mut here = at;
+    let s = list.s;
+    let mut here = list.at;
     let mut last: f64 = 0.0;
     let mut long = 0;
-    for _ in 0..count {
+    for _ in 0..list.count {
         object_refusal(s, here, last)?;
         last = f64_at(s, here + layout::START);
         long += usize::from(is_long(shape_at(s, here)));

@@ -1,8 +1,8 @@
 // The language of the conversion's rules: definitions and their laws, and no code but the refusals.
 #![tactic(auto)]
 
-ghost use Rattle.std.specs.Prelude.{◌≡◌};
-ghost use Rattle.rules.specs.Coded.{code};
+ghost use Rattle.std.specs.Prelude.{◌≡◌, if◌then◌else◌};
+ghost use Rattle.rules.specs.Coded.{code, refusal_code};
 
 // What a refusal says, and its number. specs/Numbers.antt says what each is, and include/sumopine.h has the same names and numbers.
 #[derive(Clone, Copy, Debug, PartialEq, Eq)]
@@ -33,18 +33,17 @@ pub enum Refusal {
     HitObjects = 26,
 }
 
-impl Refusal {
-    pub fn number(self) -> u8
-        ensures { result ≡ code self }
-    {
-        self as u8
-    }
-}
-
 impl From<Refusal> for u32 {
     ghost from_gives = { λ refusal number. number ≡ code refusal };
 
     fn from(refusal: Refusal) -> u32 {
         refusal as u32
     }
+}
+
+// The refusal, where what it refuses is so.
+pub fn refuse(refused: bool, refusal: Refusal) -> Result<(), Refusal>
+    ensures { refusal_code result ≡ (if refused then code refusal else 0) }
+{
+    if refused { Err(refusal) } else { Ok(()) }
 }

@@ -56,6 +56,7 @@ fn columns_by_share(share: f64, cs: u32, od: u32) -> u8
 }
 
 // `target_columns` without a key choice, from cs and od rounded: `long` of the objects are sliders or spinners.
+// Two numbers, here and below: with a struct of both, each definition would still take the two.
 #[tactic(auto, unfolding(mania::specs::Convert::columns_at))]
 pub fn columns_at(cs: u32, od: u32, long: u32, objects: u32) -> u8
     ensures { result ≡ columns_at long objects cs od }
@@ -109,7 +110,7 @@ pub fn conversion_difficulty(s: Settings, breaks: f64, first: f64, last: f64, ob
     ensures { result ≡ difficulty_by s breaks first last objects }
 {
     let drain = f64::from(drain_time(breaks, first, last));
-    let life = f64::from(s.hp + s.ar.clamp(4.0, 7.0)) / 1.5;
+    let life = f64::from(s.hp + floats::clamp(4.0, 7.0, s.ar)) / 1.5;
     let pace = f64::from(objects) / drain * 9.0;
     floats::min((life + pace) / 38.0 * 5.0 / 1.15, MOST_DIFFICULTY)
 }

@@ -1,4 +1,4 @@
--- What holds of a chart that was read, so that each line of its sheet has its 40 places. Functions above ask it of those below.
+-- What holds of a chart that was read, so that each line of its sheet has its 40 places. The code holds it in `Sheet`.
 -- Assumes nothing.
 use Rattle.std.specs.Prelude.{List, ℕ, ◌≤◌, ◌<◌, length, get_or}
 use Rattle.floats.specs.Format.{infinity}

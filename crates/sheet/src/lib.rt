@@ -1,7 +1,8 @@
-// The chart sheet for the engineer's folder: pages of 64 lines, a note to a line, put into a lent buffer.
+// The chart sheet for the engineer's folder: pages of 64 lines, a note to a line, put into a lent buffer. `s` and `at` are as in `text`.
 #![tactic(auto)]
 
 mod layout;
+mod shown;
 
 ghost use Rattle.std.specs.Prelude.{◌≡◌, ◌+◌, ◌*◌, ◌^◌, ◌≤◌, ◌<◌, length};
 ghost use Rattle.chart.specs.Layout.{most_in_chart};
@@ -9,15 +10,17 @@ ghost use Rattle.chart.specs.Bytes.{splice};
 ghost use Rattle.chart.specs.Chart.{notes_in};
 ghost use Rattle.sheet.specs.Layout.{page_lines, line_width, line_size};
 ghost use Rattle.sheet.specs.Sheet.{milliseconds, mark, note_text, head_text, text_at, line_at, lines, pages, told, given, sheeted};
-ghost use Rattle.sheet.specs.Fits.{StartFits, NoteFits, Fits};
+ghost use Rattle.sheet.specs.Fits.{StartFits, NoteFits};
 
 use chart::Note;
-use chart_reader::{note_of, read};
+use chart_reader::counted::Notes;
+use chart_reader::read;
 use floats::{Way, to_count};
 use layout::{
     LINE_SIZE, LINE_WIDTH, NUMBER_WIDTH, PAGE_LINES, PAGE_NOTES, START_WIDTH, WORD_WIDTH,
 };
 use rules::Refusal;
+use shown::Sheet;
 use text::{put_right, put_run, put_word};
 
 // How many pages so many notes take.
@@ -28,7 +31,7 @@ fn pages_of(count: u32) -> u32
     count.div_ceil(PAGE_NOTES).max(1)
 }
 
-// A start in whole milliseconds, cut downward.
+// A start in whole milliseconds, cut downward: `hit_object_lines::milliseconds` is nearly the same by another definition, and neither crate knows the other.
 fn start_of(start: u64) -> u32
     requires { StartFits start }
     ensures { result ≡ milliseconds start }
@@ -68,10 +71,10 @@ fn put_note(s: &mut [u8], at: usize, columns: u32, n: Note) -> usize
 }
 
 // Stores the text of the line with index i of a chart's sheet: a page's first, a note's, or none.
-fn put_text(chart: &[u8], columns: u32, count: u32, i: u32, s: &mut [u8], at: usize) -> usize
-    requires { Fits columns (notes_in chart.now) × (count ≡ length (notes_in chart.now)) × (i < page_lines * pages count) × (at + line_width ≤ length s.old) }
-    ensures value { (result ≡ at + length (text_at columns (notes_in chart.now) i)) × (result ≤ at + line_width) }
-    ensures s_after { s.new ≡ splice s.old at (text_at columns (notes_in chart.now) i) }
+fn put_text(sheet: Sheet, i: u32, s: &mut [u8], at: usize) -> usize
+    requires { (i < page_lines * pages sheet.notes.count) × (at + line_width ≤ length s.old) }
+    ensures value { (result ≡ at + length (text_at sheet.entry.columns (notes_in sheet.entry.notes.chart.now) i)) × (result ≤ at + line_width) }
+    ensures s_after { s.new ≡ splice s.old at (text_at sheet.entry.columns (notes_in sheet.entry.notes.chart.now) i) }
 {
     let page = i / PAGE_LINES;
     let line = i % PAGE_LINES;
@@ -79,44 +82,44 @@ fn put_text(chart: &[u8], columns: u32, count: u32, i: u32, s: &mut [u8], at: us
         return put_head(s, at, page + 1);
     }
     let place = PAGE_NOTES * page + (line - 1);
-    if place >= count {
+    if place >= sheet.notes.count {
         return at;
     }
-    put_note(s, at, columns, note_of(chart, place))
+    put_note(s, at, sheet.columns, sheet.notes.note(place))
 }
 
 // Stores the line with index i, with spaces to the edge and its line feed.
-fn put_line(chart: &[u8], columns: u32, count: u32, i: u32, s: &mut [u8])
-    requires { Fits columns (notes_in chart.now) × (count ≡ length (notes_in chart.now)) × (i < page_lines * pages count) × (line_size * i + line_size ≤ length s.old) }
-    ensures { s.new ≡ splice s.old (line_size * i) (line_at columns (notes_in chart.now) i) }
+fn put_line(sheet: Sheet, i: u32, s: &mut [u8])
+    requires { (i < page_lines * pages sheet.notes.count) × (line_size * i + line_size ≤ length s.old) }
+    ensures { s.new ≡ splice s.old (line_size * i) (line_at sheet.entry.columns (notes_in sheet.entry.notes.chart.now) i) }
 {
     let at = LINE_SIZE * (i as usize);
-    let end = put_text(chart, columns, count, i, s, at);
+    let end = put_text(sheet, i, s, at);
     let edge = put_run(s, end, b' ', at + LINE_WIDTH - end);
     put_word(s, edge, b"\n");
 }
 
 // Stores the first lines of a chart's sheet, so many, from the start of the buffer.
-fn put_lines(chart: &[u8], columns: u32, count: u32, end: u32, s: &mut [u8])
-    requires { Fits columns (notes_in chart.now) × (count ≡ length (notes_in chart.now)) × (end ≤ page_lines * pages count) × (line_size * end ≤ length s.old) }
-    ensures { s.new ≡ splice s.old 0 (lines columns (notes_in chart.now) end) }
+fn put_lines(sheet: Sheet, end: u32, s: &mut [u8])
+    requires { (end ≤ page_lines * pages sheet.notes.count) × (line_size * end ≤ length s.old) }
+    ensures { s.new ≡ splice s.old 0 (lines sheet.entry.columns (notes_in sheet.entry.notes.chart.now) end) }
 {
     for i in 0..end {
-        put_line(chart, columns, count, i, s);
+        put_line(sheet, i, s);
     }
 }
 
 // The sheet of a chart that was read.
-fn put_read(chart: &[u8], columns: u32, count: u32, s: &mut [u8]) -> Result<usize, Refusal>
-    requires { Fits columns (notes_in chart.now) × (count ≡ length (notes_in chart.now)) }
-    ensures { (told result, s.new) ≡ given (lines columns (notes_in chart.now) (page_lines * pages count)) s.old }
+fn put_read(sheet: Sheet, s: &mut [u8]) -> Result<usize, Refusal>
+    ensures { (told result, s.new) ≡ given
+        (lines sheet.entry.columns (notes_in sheet.entry.notes.chart.now) (page_lines * pages sheet.entry.notes.count)) s.old }
 {
-    let end = PAGE_LINES * pages_of(count);
+    let end = PAGE_LINES * pages_of(sheet.notes.count);
     let size = LINE_SIZE * (end as usize);
     if s.len() < size {
         return Err(Refusal::SheetTooShort);
     }
-    put_lines(chart, columns, count, end, s);
+    put_lines(sheet, end, s);
     Ok(size)
 }
 
@@ -125,5 +128,9 @@ pub fn put_sheet(chart: &[u8], s: &mut [u8]) -> Result<usize, Refusal>
     ensures { (told result, s.new) ≡ sheeted chart.now s.old }
 {
     let header = read(chart)?;
-    put_read(chart, header.columns, header.notes, s)
+    let sheet = Sheet {
+        notes: Notes::new(chart, header),
+        columns: header.columns,
+    };
+    put_read(sheet, s)
 }

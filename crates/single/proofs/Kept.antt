@@ -6,6 +6,7 @@ use mathlib.Core.List.{List}
 use lib.Dec.{ltb}
 use lib.ListN.{length}
 use Rattle.model.specs.Limits.{most_notes}
+use Rattle.rules.specs.Coded.{code}
 use Rattle.rules.specs.Refusal.{number, spent_number}
 use Rattle.random.specs.Play.{found, tallied, on}
 use Rattle.random.specs.Laws.Allowance.{found_run}
@@ -19,7 +20,7 @@ use Rattle.mania.specs.Object.{object}
 use Rattle.mania.specs.Single.{Single, made, refusing, entry_refusal, single_object}
 use Rattle.mania.proofs.Laws.Singles.{single_full, single_made}
 use Rattle.entry.specs.Laws.{checked}
-use Rattle.std.specs.Prelude.{Result}
+use Rattle.std.specs.Prelude.{Result, Ok, Err, IsErrAnd}
 use Rattle.pattern.specs.declared.Made as Lent
 use Rattle.pattern.specs.Answers.{made_by}
 use Rattle.pattern.specs.Laws.Words.{note_count_law}
@@ -49,6 +50,14 @@ pub left_in : (f : Facts) (v : PrevValues) (columns : ℕ) (o : Object) (r : Ran
     → found (made_by (note_at o) words m) e ≡ on (object f v columns o) (tallied a 0 r) → e.tally.left ≤ a
 left_in f v columns o r a words m e says =
     (found_run (λ p. spent_number) number (object f v columns o) (tallied a 0 r) (made_by (note_at o) words m) e (sym says)).1
+
+-- the exit of a `?` is a refusal, and leaves the buffer as it was
+pub leaves_with : (notes : List ℕ) (n : ℕ) (lent : Random) (e : ObjectRefused) (x : Result Converted ObjectRefused) → IsErrAnd x (λ y. y ≡ e)
+    → (code e.refusal ≡ n) × (e.random ≡ lent) → single_end notes x ≡ refusing n lent notes
+unfolding refusing
+leaves_with notes n lent e (Ok y) h k = absurd h
+leaves_with notes n lent e (Err y) h k =
+    ap (λ (z : ObjectRefused). refusing (code z.refusal) z.random notes) h ∙ ap₂ (λ (m : ℕ) (s : Random). refusing m s notes) k.0 k.1
 
 module _ (f : Facts) (v : PrevValues) (columns : ℕ) (o : Object) (r : Random) (a : ℕ) (entry exit words : List ℕ) (m : Lent.Made) (e : Draws)
     (passes : entry_refusal f v columns o ≡ 0) (size : m.pattern.count ≤ length words)

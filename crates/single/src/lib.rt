@@ -25,7 +25,7 @@ pub struct Converted {
     pub draws: u32,
 }
 
-// A refusal, and the state that was lent.
+// A refusal, and the state that was lent: a host gets it back in every case.
 #[derive(Clone, Copy)]
 pub struct ObjectRefused {
     pub refusal: Refusal,
@@ -53,7 +53,7 @@ fn keep(
             random: lent,
         });
     }
-    notes::put_notes(0, o, words, count, notes, 0);
+    notes::put_notes(0, o, &words[..count], notes);
     let after = e.tally;
     Ok(Converted {
         count: count as u32,
@@ -78,6 +78,7 @@ fn generate(
     requires { entry_refusal f v columns o ≡ 0 }
     ensures { single_end notes.new result ≡ single_object f v columns o lent allowance notes.old }
 {
+    // Fixed memory, as in `convert`.
     let mut words: [u64; MOST_NOTES] = [0; MOST_NOTES];
     let mut spare: [u64; MOST_NOTES] = [0; MOST_NOTES];
     let tally = Tally {
@@ -88,13 +89,13 @@ fn generate(
         random: lent,
         tally,
     };
-    match object::generate(f, v, columns, o, &mut words, &mut spare, d) {
-        Ok((made, e)) => keep(o, &words, made, lent, allowance, e, notes),
-        Err(refused) => Err(ObjectRefused {
+    let (made, e) = object::generate(f, v, columns, o, &mut words, &mut spare, d).map_err(
+        |refused| ObjectRefused {
             refusal: refused.refusal,
             random: lent,
-        }),
-    }
+        },
+    )?;
+    keep(o, &words, made, lent, allowance, e, notes)
 }
 
 // The checks in their order, and then the object's rule.
@@ -109,11 +110,9 @@ pub fn convert_object(
 ) -> Result<Converted, ObjectRefused>
     ensures { single_end notes.new result ≡ single_object f v columns o lent allowance notes.old }
 {
-    match entry::entry_refusal(f, v, columns, o) {
-        Ok(()) => generate(f, v, columns, o, lent, allowance, notes),
-        Err(refusal) => Err(ObjectRefused {
-            refusal,
-            random: lent,
-        }),
-    }
+    entry::entry_refusal(f, v, columns, o).map_err(|refusal| ObjectRefused {
+        refusal,
+        random: lent,
+    })?;
+    generate(f, v, columns, o, lent, allowance, notes)
 }

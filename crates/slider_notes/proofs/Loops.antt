@@ -1,11 +1,12 @@
 -- One turn of each loop, in its rule: what the turn gave is handed on, or refused. Assumes nothing.
 use Rattle.std.specs.Prelude.{if◌then◌else◌}
 use mathlib.Core.Path.{◌≡◌, refl, sym, ap, ◌∙◌}
-use Prim.Native.Nat.{ℕ, suc, ◌+◌, ◌-◌, ◌*◌, ◌%◌, ◌^◌, ◌≤◌, ◌<◌}
+use Prim.Native.Nat.{ℕ, suc, ◌+◌, ◌-◌, ◌^◌, ◌≤◌, ◌<◌}
 use native.Mathlib.Omega.{arith}
 use mathlib.Core.Bool.{Bool, true, false, ◌&&◌}
 use mathlib.Core.List.{List}
 use lib.Bits.{bit_or}
+use Rattle.std.specs.Int.Bits.{or_zero_l}
 use lib.Dec.{eqb, ltb}
 use lib.ListN.{length}
 use Rattle.rules.specs.Rule.{give, ◌>>=◌}
@@ -22,7 +23,7 @@ use Rattle.mania.specs.PathObject.{add_slider_note, any_column, find_column, add
 use Rattle.pattern.specs.Answers.{pattern}
 use Rattle.slider_notes.specs.Words.{of_word, slider_note, Put, PutOther, rises}
 use Rattle.pattern.specs.declared.Pattern as Lent
-use Rattle.slider_notes.proofs.Words.{bit_is, add_on, all}
+use Rattle.slider_notes.proofs.Words.{add_on, all}
 
 -- at a loop's head: the rule with so many turns left comes to what the whole comes to, and there is room for what it still writes
 pub record At {A : Type 0} (columns : ℕ) (entry now : List ℕ) (most need c : ℕ) (p : Lent.Pattern) (rule : ℕ → Answer ℕ A) (left : ℕ) (whole : Answer ℕ A) : Type 0 where
@@ -55,19 +56,20 @@ module _ (g : PathObjectPatternGenerator) (now : List ℕ) (n time c : ℕ) (p :
   unfolding add_row
   row_is s m h = ap (λ (k : ℕ). add_row g k time c s) h
 
-  module _ (m : ℕ) (h : n ≡ suc m) (deck : c < g.columns) (small : g.columns ≤ 9) (after : List ℕ) (q : Lent.Pattern) (w : Put now after p (slider_note c time time) q) (next : Draws) where
-    row_put : on (add_row g n time c (pattern of_word now p)) rest ≡ on (seek g c (1 * 2 ^ c % 65536) >>= (λ d. add_row g m (time + g.length) d (pattern of_word after q))) rest
+  module _ (m : ℕ) (h : n ≡ suc m) (deck : c < g.columns) (after : List ℕ) (q : Lent.Pattern) (w : Put now after p (slider_note c time time) q) (next : Draws)
+      (own : ℕ) (o : own ≡ bit_or 0 (2 ^ c)) where
+    row_put : on (add_row g n time c (pattern of_word now p)) rest ≡ on (seek g c own >>= (λ d. add_row g m (time + g.length) d (pattern of_word after q))) rest
     unfolding find_column
     row_put =
         ap (λ (o : ObjectRule (Pattern SliderNote)). on o rest) (row_is (pattern of_word now p) m h)
         ∙ found_bind _ _ _ _ _ (add_on g c time time (pattern of_word now p) rest deck)
-        ∙ rw (← (bit_is c (omega arith)), w.is)
+        ∙ rw (w.is, o, or_zero_l (2 ^ c))
 
-    pub row_more : (e : ℕ) → on (seek g c (1 * 2 ^ c % 65536)) rest ≡ found e next
+    pub row_more : (e : ℕ) → on (seek g c own) rest ≡ found e next
         → on (add_row g n time c (pattern of_word now p)) rest ≡ on (add_row g m (time + g.length) e (pattern of_word after q)) next
     row_more e f = row_put ∙ found_bind _ _ _ _ _ f
 
-    pub row_stop : (x : ℕ) → on (seek g c (1 * 2 ^ c % 65536)) rest ≡ refused x next → on (add_row g n time c (pattern of_word now p)) rest ≡ refused x next
+    pub row_stop : (x : ℕ) → on (seek g c own) rest ≡ refused x next → on (add_row g n time c (pattern of_word now p)) rest ≡ refused x next
     row_stop x f = row_put ∙ refused_bind _ _ _ _ _ f
 
   pub row_end : n ≤ 0 → on (add_row g n time c (pattern of_word now p)) rest ≡ found (pattern of_word now p) rest
@@ -135,31 +137,28 @@ module _ (g : PathObjectPatternGenerator) (now : List ℕ) (end n time c : ℕ) 
 -- ---- a row beside a hold
 
 module _ (g : PathObjectPatternGenerator) (now : List ℕ) (hold time n c row : ℕ) (p : Lent.Pattern) (rest : Draws) where
-  abbrev pub off : ℕ
-  off = bit_or row (1 * 2 ^ hold % 65536)
-
   beside_is : (s : Pattern SliderNote) → (m : ℕ) → n ≡ suc m
       → add_beside g hold time n c row s
       ≡ (find_column g c (bit_or row (2 ^ hold)) >>= (λ d. add_slider_note g d time time s >>= (λ q. add_beside g hold time m d (bit_or row (2 ^ d)) q)))
   unfolding add_beside
   beside_is s m h = ap (λ (k : ℕ). add_beside g hold time k c row s) h
 
-  module _ (m : ℕ) (h : n ≡ suc m) (held : hold < 9) (next : Draws) where
-    pub beside_more : (e : ℕ) → on (seek g c off) rest ≡ found e next → e < g.columns → g.columns ≤ 9
+  module _ (m : ℕ) (h : n ≡ suc m) (next : Draws) (taken : ℕ) (t : taken ≡ bit_or row (2 ^ hold)) where
+    pub beside_more : (e : ℕ) → on (seek g c taken) rest ≡ found e next → e < g.columns → (both : ℕ) → both ≡ bit_or row (2 ^ e)
         → (after : List ℕ) (q : Lent.Pattern) → Put now after p (slider_note e time time) q
-        → on (add_beside g hold time n c row (pattern of_word now p)) rest ≡ on (add_beside g hold time m e (bit_or row (1 * 2 ^ e % 65536)) (pattern of_word after q)) next
+        → on (add_beside g hold time n c row (pattern of_word now p)) rest ≡ on (add_beside g hold time m e both (pattern of_word after q)) next
     unfolding find_column
-    beside_more e f deck small after q w =
+    beside_more e f deck both b after q w =
         ap (λ (o : ObjectRule (ℕ × Pattern SliderNote)). on o rest) (beside_is (pattern of_word now p) m h)
-        ∙ found_bind _ _ _ _ _ (ap (λ (k : ℕ). on (seek g c (bit_or row k)) rest) (bit_is hold (omega arith)) ∙ f)
+        ∙ found_bind _ _ _ _ _ (rw t at f)
         ∙ found_bind _ _ _ _ _ (add_on g e time time (pattern of_word now p) next deck)
-        ∙ rw (← (bit_is e (omega arith)), w.is)
+        ∙ rw (w.is, b)
 
-    pub beside_stop : (x : ℕ) → on (seek g c off) rest ≡ refused x next → on (add_beside g hold time n c row (pattern of_word now p)) rest ≡ refused x next
+    pub beside_stop : (x : ℕ) → on (seek g c taken) rest ≡ refused x next → on (add_beside g hold time n c row (pattern of_word now p)) rest ≡ refused x next
     unfolding find_column
     beside_stop x f =
         ap (λ (o : ObjectRule (ℕ × Pattern SliderNote)). on o rest) (beside_is (pattern of_word now p) m h)
-        ∙ refused_bind _ _ _ _ _ (ap (λ (k : ℕ). on (seek g c (bit_or row k)) rest) (bit_is hold (omega arith)) ∙ f)
+        ∙ refused_bind _ _ _ _ _ (rw t at f)
 
   pub beside_end : n ≤ 0 → on (add_beside g hold time n c row (pattern of_word now p)) rest ≡ found (c, pattern of_word now p) rest
   unfolding add_beside play

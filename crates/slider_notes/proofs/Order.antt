@@ -1,8 +1,7 @@
 -- One word more of a buffer, in the lists of the definition. Assumes nothing.
 use Rattle.std.specs.Prelude.{if◌then◌else◌}
 use mathlib.Core.Path.{◌≡◌, refl, sym, ap, ◌∙◌}
-use Prim.Native.Nat.{ℕ, suc, ◌+◌, ◌-◌, ◌*◌, ◌%◌, ◌^◌, ◌≤◌, ◌<◌}
-use native.Mathlib.Nat.{mod-lt}
+use Prim.Native.Nat.{ℕ, suc, ◌+◌, ◌-◌, ◌^◌, ◌≤◌, ◌<◌}
 use native.Mathlib.Numerals.{add-one}
 use native.Mathlib.Omega.{arith}
 use mathlib.Core.Bool.{Bool, true, false}
@@ -10,7 +9,6 @@ use mathlib.Core.List.{List, [], ◌∷◌, ◌++◌, map, append_assoc, append-
 use lib.Bits.{bit_or}
 use lib.Dec.{eqb}
 use borrow.Author.Tests.{eq-eqb, ne_eqb}
-use lib.Pow.{pow_pos}
 use lib.ListN.{length, set, take, drop, get_or, length-set, length-map}
 use lib.Seq.{drop-cons, length-take-le, take-length}
 use Rattle.mania.specs.declared.SliderNote.{SliderNote}
@@ -20,7 +18,6 @@ use Rattle.pattern.specs.Answers.{column_of, pattern}
 use Rattle.pattern.specs.Laws.Words.{one_more}
 use Rattle.slider_notes.specs.Words.{of_word, Put}
 use Rattle.pattern.specs.declared.Pattern as Lent
-use Rattle.slider_notes.proofs.Words.{bit_is}
 use Rattle.slider_notes.specs.Order.{endings, Others, Endings, walk_order, Ordered}
 
 -- the notes of the words from i up to n
@@ -81,15 +78,10 @@ pub endings_end : (end : ℕ) → endings end [] ≡ 0
 unfolding endings
 endings_end end = refl
 
-pub column_lt : (w c : ℕ) → c ≡ column_of w → c < 16
-column_lt w c e = rw e (mod-lt w (pow_pos 4))
-
-pub copied : (entry : List ℕ) (p : Lent.Pattern) (w c : ℕ) → c ≡ column_of w → p.count < length entry
-    → Put entry (set entry p.count w) p (of_word w) (record { mask = bit_or p.mask (1 * 2 ^ c % 65536); last = c; count = p.count + 1 })
+pub copied : (entry : List ℕ) (p : Lent.Pattern) (w c mask : ℕ) → c ≡ column_of w → p.count < length entry → mask ≡ bit_or p.mask (2 ^ c)
+    → Put entry (set entry p.count w) p (of_word w) (record { mask = mask; last = c; count = p.count + 1 })
 unfolding pattern put of_word
-copied entry p w c e room =
-    let b : 2 ^ c ≡ 1 * 2 ^ c % 65536 = bit_is c (column_lt w c e) in
-    record { is = rw (one_more of_word entry p.count w room, ← b, e); more = refl }
+copied entry p w c mask e room m = record { is = rw (one_more of_word entry p.count w room, m, e); more = refl }
 
 -- ---- at the loops' heads
 

@@ -1,10 +1,8 @@
 -- A note written as a word, and what the loops have in common. Assumes nothing.
-use mathlib.Core.Path.{◌≡◌, sym, ap, ◌∙◌}
+use mathlib.Core.Path.{◌≡◌, ap, ◌∙◌}
 use Prim.Native.Nat.{ℕ, suc, ◌+◌, ◌-◌, ◌*◌, ◌/◌, ◌%◌, ◌^◌, ◌≤◌, ◌<◌}
-use native.Mathlib.Nat.{one-mul, suc-mul}
+use native.Mathlib.Nat.{suc-mul}
 use native.Mathlib.Omega.{arith}
-use lib.Dec.{lit<}
-use lib.Pow.{shl_exact}
 use lib.ListN.{length}
 use Rattle.mania.specs.declared.SliderNote.{SliderNote}
 use Rattle.random.specs.Play.{found, on}
@@ -15,10 +13,6 @@ use Rattle.mania.specs.PathObject.{add_slider_note}
 use Rattle.pattern.specs.Answers.{column_of}
 use Rattle.pattern.specs.Laws.Adds as Adds
 use Rattle.slider_notes.specs.Words.{slider_note, of_word}
-
--- one bit as the code makes it
-pub bit_is : (c : ℕ) → c < 16 → 2 ^ c ≡ 1 * 2 ^ c % 65536
-bit_is c h = sym (shl_exact 1 c 16 (lit< tt) (omega arith) ∙ one-mul (2 ^ c))
 
 -- a word is read back
 pub word_back : (c s e : ℕ) → c < 16 → s < 2 ^ 26 → e < 2 ^ 26 → of_word (e * 2 ^ 30 + s * 2 ^ 4 + c) ≡ slider_note c s e

@@ -1,6 +1,9 @@
 // The notes of a slider, one word a note in a lent buffer, and the loops that write them. Each loop is a rule of mania/specs/PathObject.antt: one loop for
-// them all would be no plainer, as each asks another mask and other times, in its own order.
+// them all would be no plainer, as each asks another mask and other times, in its own order. Whoever calls lends the room, since there is no heap, and each loop
+// asks what its own turns take.
 #![tactic(auto)]
+
+pub mod turns;
 
 ghost use Rattle.std.specs.Prelude.{◌≡◌, false, ◌&&◌, eqb, ◌+◌, ◌-◌, ◌*◌, ◌^◌, ◌≤◌, ◌<◌, map, length, take, if◌then◌else◌};
 ghost use Rattle.random.specs.Play.{on};
@@ -8,15 +11,17 @@ ghost use Rattle.mania.specs.PathObject as Path;
 ghost use Rattle.mania.specs.declared.Next.TheVariants.{Draw};
 ghost use Rattle.mania.specs.PatternGenerator.{random_start, get_random_column, find_available_column};
 ghost use Rattle.random.specs.Answers.{number};
-ghost use Rattle.pattern.specs.Answers.{column_of, pattern};
+ghost use Rattle.pattern.specs.Answers.{pattern};
 ghost use Rattle.slider_notes.specs.Words.{of_word, note_of_word, slider_note, Put, PutOther, rises};
 ghost use Rattle.slider_notes.specs.Answers.{Places, Reaches};
-ghost use Rattle.slider_notes.specs.Turns.{OnDeck, Turns};
+ghost use Rattle.slider_notes.specs.Turns.{OnDeck};
 ghost use Rattle.slider_notes.specs.Order.{endings, Others, Endings, Ordered};
 
 use mania::{Next, Note, PathObjectPatternGenerator};
 use pattern::Pattern;
+use pattern::search::Search;
 use random::{Draws, Outcome};
+use turns::Turns;
 
 // A pattern with the column of its last note.
 #[derive(Clone, Copy)]
@@ -25,7 +30,8 @@ pub struct Reached {
     pub pattern: Pattern,
 }
 
-// ---- notes and columns
+// ---- notes and columns. Columns and times are numbers, and no types of a deck or a bound: each function asks another part of a deck's bounds, and a time would
+// be made anew at each step of a loop
 
 // A note as a word: from the lowest bit on, 4 bits of column, 26 of start, 26 of end. Fixed memory: a lent buffer has one word a note.
 pub fn word(column: u8, start: u32, end: u32) -> u64
@@ -35,16 +41,17 @@ pub fn word(column: u8, start: u32, end: u32) -> u64
     (end as u64) * 1073741824 + (start as u64) * 16 + (column as u64)
 }
 
-// Writes one word more, which is a note of the column.
-fn put_word(words: &mut [u64], p: Pattern, column: u8, w: u64) -> Pattern
-    requires { (column ≡ column_of w) × (p.count < length words.old) }
+// Writes one word more.
+fn put_word(words: &mut [u64], p: Pattern, w: u64) -> Pattern
+    requires { p.count < length words.old }
     ensures { Put words.old words.new p (of_word w) result }
 {
-    let mask = p.mask;
+    let column = pattern::column_of(w);
+    let mask = pattern::with_column(p.mask, column);
     let count = p.count;
     words[count] = w;
     Pattern {
-        mask: mask | (1 << column),
+        mask,
         last: column,
         count: count + 1,
     }
@@ -55,8 +62,7 @@ pub fn put_slider_note(words: &mut [u64], p: Pattern, column: u8, start: u32, en
     requires { (column < 9) × (start < 2 ^ 26) × (end < 2 ^ 26) × (p.count < length words.old) }
     ensures { Put words.old words.new p (slider_note column start end) result }
 {
-    let w = word(column, start, end);
-    put_word(words, p, column, w)
+    put_word(words, p, word(column, start, end))
 }
 
 // A column on the deck that is not taken, by draws.
@@ -65,7 +71,15 @@ pub fn find_column(d: Draws, columns: u8, initial: u8, taken: u16) -> Outcome<u8
     ensures { number result ≡ on (find_available_column Draw columns initial (random_start columns) columns taken) d }
 {
     let low = pattern::random_start(columns);
-    pattern::find_available_column(d, Next::Draw, columns, initial, low, columns, taken)
+    let search = Search {
+        next: Next::Draw,
+        columns,
+        initial,
+        lower: low,
+        upper: columns,
+        taken,
+    };
+    pattern::find_available_column(d, search)
 }
 
 // A drawn column.
@@ -80,33 +94,26 @@ pub fn any_column(d: Draws, columns: u8) -> Outcome<u8>
 // ---- the loops
 
 // `add_row`
-pub fn add_row(
-    d: Draws,
-    g: PathObjectPatternGenerator,
-    words: &mut [u64],
-    n: u32,
-    from: u32,
-    first: u8,
-    before: Pattern,
-) -> Outcome<Pattern>
-    requires { Turns g n from first × (before.count + n ≤ length words.old) }
-    ensures { Places words.new (on (Path.add_row g n from first (pattern of_word words.old before)) d) (before.count + n) result }
+pub fn add_row(d: Draws, turns: Turns, words: &mut [u64], before: Pattern) -> Outcome<Pattern>
+    requires { before.count + turns.n ≤ length words.old }
+    ensures { Places words.new (on (Path.add_row turns.g turns.n turns.from turns.first (pattern of_word words.old before)) d) (before.count + turns.n) result }
 {
     let mut rest = d;
     let mut p = before;
-    let mut time = from;
-    let mut c = first;
-    for _ in 0..n {
+    let mut time = turns.from;
+    let mut c = turns.first;
+    for _ in 0..turns.n {
         p = put_slider_note(words, p, c, time, time);
-        let (e, next) = find_column(rest, g.columns, c, 1 << c)?;
+        let own = pattern::with_column(0, c);
+        let (e, next) = find_column(rest, turns.g.columns, c, own)?;
         rest = next;
         c = e;
-        time += g.length;
+        time += turns.g.length;
     }
     Ok((p, rest))
 }
 
-// `add_holds`
+// `add_holds`. The deck is a clause here and in `add_beside`: a type for these two would be no plainer, as only the loops a span apart share a `Turns`.
 pub fn add_holds(
     d: Draws,
     g: PathObjectPatternGenerator,
@@ -157,29 +164,26 @@ fn step(c: u8, up: bool) -> u8
     if up { c + 1 } else { c - 1 }
 }
 
-// `add_stair`
+// `add_stair`. It draws nothing and is never refused, but answers as the other loops do, since its rule is one of theirs.
 pub fn add_stair(
     d: Draws,
-    g: PathObjectPatternGenerator,
+    turns: Turns,
     words: &mut [u64],
-    n: u32,
-    from: u32,
-    first: u8,
     rising: bool,
     before: Pattern,
 ) -> Outcome<Pattern>
-    requires { (2 ≤ g.columns) × Turns g n from first × (before.count + n ≤ length words.old) }
-    ensures { Places words.new (on (Path.add_stair g n from first rising (pattern of_word words.old before)) d) (before.count + n) result }
+    requires { (2 ≤ turns.g.columns) × (before.count + turns.n ≤ length words.old) }
+    ensures { Places words.new (on (Path.add_stair turns.g turns.n turns.from turns.first rising (pattern of_word words.old before)) d) (before.count + turns.n) result }
 {
     let mut p = before;
-    let mut time = from;
-    let mut c = first;
+    let mut time = turns.from;
+    let mut c = turns.first;
     let mut up = rising;
-    for _ in 0..n {
+    for _ in 0..turns.n {
         p = put_slider_note(words, p, c, time, time);
-        up = rises(g.columns, c, up);
+        up = rises(turns.g.columns, c, up);
         c = step(c, up);
-        time += g.length;
+        time += turns.g.length;
     }
     Ok((p, d))
 }
@@ -220,28 +224,25 @@ fn put_other(words: &mut [u64], p: Pattern, columns: u8, interval: u8, c: u8, ti
 // `add_rows`
 pub fn add_rows(
     d: Draws,
-    g: PathObjectPatternGenerator,
+    turns: Turns,
     words: &mut [u64],
     interval: u8,
-    n: u32,
-    from: u32,
-    first: u8,
     before: Pattern,
 ) -> Outcome<Pattern>
-    requires { Turns g n from first × (before.count + 2 * n ≤ length words.old) × (interval + Path.legacy g.columns < g.columns) }
-    ensures { Places words.new (on (Path.add_rows g interval n from first (pattern of_word words.old before)) d) (before.count + 2 * n) result }
+    requires { (before.count + 2 * turns.n ≤ length words.old) × (interval + Path.legacy turns.g.columns < turns.g.columns) }
+    ensures { Places words.new (on (Path.add_rows turns.g interval turns.n turns.from turns.first (pattern of_word words.old before)) d) (before.count + 2 * turns.n) result }
 {
     let mut rest = d;
     let mut p = before;
-    let mut time = from;
-    let mut c = first;
-    for _ in 0..n {
+    let mut time = turns.from;
+    let mut c = turns.first;
+    for _ in 0..turns.n {
         p = put_slider_note(words, p, c, time, time);
-        p = put_other(words, p, g.columns, interval, c, time);
-        let (e, next) = any_column(rest, g.columns)?;
+        p = put_other(words, p, turns.g.columns, interval, c, time);
+        let (e, next) = any_column(rest, turns.g.columns)?;
         rest = next;
         c = e;
-        time += g.length;
+        time += turns.g.length;
     }
     Ok((p, rest))
 }
@@ -249,27 +250,24 @@ pub fn add_rows(
 // `add_tiles`
 pub fn add_tiles(
     d: Draws,
-    g: PathObjectPatternGenerator,
+    turns: Turns,
     words: &mut [u64],
-    end: u32,
-    n: u32,
-    from: u32,
-    first: u8,
+    until: u32,
     before: Pattern,
 ) -> Outcome<Pattern>
-    requires { Turns g n from first × (before.count + n ≤ length words.old) × (end < 2 ^ 26) }
-    ensures { Places words.new (on (Path.add_tiles g end n from first (pattern of_word words.old before)) d) (before.count + n) result }
+    requires { (before.count + turns.n ≤ length words.old) × (until < 2 ^ 26) }
+    ensures { Places words.new (on (Path.add_tiles turns.g until turns.n turns.from turns.first (pattern of_word words.old before)) d) (before.count + turns.n) result }
 {
     let mut rest = d;
     let mut p = before;
-    let mut time = from;
-    let mut c = first;
-    for _ in 0..n {
-        let (e, next) = find_column(rest, g.columns, c, p.mask)?;
-        p = put_slider_note(words, p, e, time, end);
+    let mut time = turns.from;
+    let mut c = turns.first;
+    for _ in 0..turns.n {
+        let (e, next) = find_column(rest, turns.g.columns, c, p.mask)?;
+        p = put_slider_note(words, p, e, time, until);
         rest = next;
         c = e;
-        time += g.length;
+        time += turns.g.length;
     }
     Ok((p, rest))
 }
@@ -294,11 +292,12 @@ pub fn add_beside(
     let mut c = first;
     let mut row = mask;
     for _ in 0..n {
-        let (e, next) = find_column(rest, g.columns, c, row | (1 << hold))?;
+        let taken = pattern::with_column(row, hold);
+        let (e, next) = find_column(rest, g.columns, c, taken)?;
         p = put_slider_note(words, p, e, time, time);
         rest = next;
         c = e;
-        row |= 1 << e;
+        row = pattern::with_column(row, e);
     }
     Ok((
         Reached {
@@ -320,37 +319,34 @@ fn beside(bare: bool, time: u32, start: u32, k: u32) -> u32
 // `add_besides`
 pub fn add_besides(
     d: Draws,
-    g: PathObjectPatternGenerator,
+    turns: Turns,
     words: &mut [u64],
     hold: u8,
     bare: bool,
     k: u32,
-    n: u32,
-    from: u32,
-    first: u8,
     before: Pattern,
 ) -> Outcome<Pattern>
-    requires { Turns g n from first × (before.count + 6 * n ≤ length words.old) × (hold < 9) × (k ≤ 6) }
-    ensures { Places words.new (on (Path.add_besides g hold bare k n from first (pattern of_word words.old before)) d) (before.count + 6 * n) result }
+    requires { (before.count + 6 * turns.n ≤ length words.old) × (hold < 9) × (k ≤ 6) }
+    ensures { Places words.new (on (Path.add_besides turns.g hold bare k turns.n turns.from turns.first (pattern of_word words.old before)) d) (before.count + 6 * turns.n) result }
 {
     let mut rest = d;
     let mut p = before;
-    let mut time = from;
-    let mut c = first;
-    for _ in 0..n {
-        let here = beside(bare, time, g.start, k);
-        let (row, next) = add_beside(rest, g, words, hold, time, here, c, 0, p)?;
+    let mut time = turns.from;
+    let mut c = turns.first;
+    for _ in 0..turns.n {
+        let here = beside(bare, time, turns.g.start, k);
+        let (row, next) = add_beside(rest, turns.g, words, hold, time, here, c, 0, p)?;
         rest = next;
         p = row.pattern;
         c = row.column;
-        time += g.length;
+        time += turns.g.length;
     }
     Ok((p, rest))
 }
 
 // ---- walk order: first the notes that do not end at the slider's end, then those that do, which are the next object's previous pattern
 
-// The end of a word's note.
+// The end of a word's note. It and the start are one line each.
 pub fn end_of(w: u64) -> u32
     ensures { result ≡ (of_word w).end }
 {
@@ -389,7 +385,8 @@ pub fn note_of(w: u64) -> Note
     }
 }
 
-// Copies the notes that do not end at a time, and gives their number.
+// Copies the notes that do not end at a time, and gives their number, `k`: a `filter` has nowhere to collect without a heap, and std does not say what a
+// `zip` with an `iter_mut` writes.
 pub fn put_others(src: &[u64], end: u32, dst: &mut [u64]) -> usize
     requires { length src.now ≤ length dst.old }
     ensures { Others src.now (length src.now) end dst.new result }
@@ -412,7 +409,7 @@ pub fn put_ending(src: &[u64], end: u32, dst: &mut [u64], before: Pattern) -> Pa
     let mut p = before;
     for w in src {
         if end_of(*w) == end {
-            p = put_word(dst, p, pattern::column_of(*w), *w);
+            p = put_word(dst, p, *w);
         }
     }
     p

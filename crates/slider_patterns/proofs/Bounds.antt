@@ -73,7 +73,7 @@ beside_small g d n e f = gives (λ n. n ≤ 6) (beside_count g) (beside_gives g)
 
 -- ---- times and rooms
 
-module _ (g : PathObjectPatternGenerator) (words : ℕ) (f : Fits g words) where
+module _ (g : PathObjectPatternGenerator) (f : Fits g) where
   pub times_le : (n : ℕ) → n ≤ g.spans + 1 → g.start + n * g.length < 2 ^ 26
   times_le n h =
       let k : n * g.length ≤ (g.spans + 1) * g.length = mul-le-mul_right g.length h in
@@ -81,6 +81,3 @@ module _ (g : PathObjectPatternGenerator) (words : ℕ) (f : Fits g words) where
 
   pub end_lt : g.start + g.length * g.spans < 2 ^ 26
   end_lt = rw (mul_comm g.length g.spans) (times_le g.spans (omega arith))
-
-  pub fits_kept : (after : ℕ) → after ≡ words → Fits g after
-  fits_kept after e = rw e f

@@ -10,7 +10,7 @@ use floats::Way;
 use mania::{Facts, PathObjectPatternGenerator, PrevValues};
 use model::{Object, sound};
 
-// The chances of two, three and four notes. `mania::CircleChances` has that of five too, which no slider has: one type for both would be no plainer.
+// The chances of two, three and four notes. Not `mania::CircleChances`: the rule of sliders has a record of three, and a fifth would be 0 in every line.
 #[derive(Clone, Copy)]
 pub struct Chance {
     pub p2: f64,
@@ -28,20 +28,30 @@ impl Chance {
     }
 }
 
-// The caps by column count; a cap of 1 caps nothing. Constant arrays, one a chance (docs/DECISIONS.md): a table of `Chance`s would be no plainer, as its
-// rows can call no function.
-const CAPS_2: [f64; 10] = [1.0, 1.0, 0.0, 0.1, 0.3, 0.34, 1.0, 1.0, 1.0, 1.0];
+// The caps on 2, 3 and 4 notes, by column count from 0 on. A cap of 1 caps nothing.
+const CAPS: [[f64; 3]; 10] = [
+    [1.0, 1.0, 1.0],
+    [1.0, 1.0, 1.0],
+    [0.0, 0.0, 0.0],
+    [0.1, 0.0, 0.0],
+    [0.3, 0.04, 0.0],
+    [0.34, 0.1, 0.03],
+    [1.0, 1.0, 1.0],
+    [1.0, 1.0, 1.0],
+    [1.0, 1.0, 1.0],
+    [1.0, 1.0, 1.0],
+];
 
-const CAPS_3: [f64; 10] = [1.0, 1.0, 0.0, 0.0, 0.04, 0.1, 1.0, 1.0, 1.0, 1.0];
-
-const CAPS_4: [f64; 10] = [1.0, 1.0, 0.0, 0.0, 0.0, 0.03, 1.0, 1.0, 1.0, 1.0];
-
-// The caps of a column count.
+// The caps of a column count, up to the last that the table has.
 pub fn caps(columns: usize) -> Chance
     requires { columns ≤ 9 }
     ensures { chances result ≡ caps_of columns }
 {
-    Chance::new(CAPS_2[columns], CAPS_3[columns], CAPS_4[columns])
+    Chance {
+        p2: CAPS[columns][0],
+        p3: CAPS[columns][1],
+        p4: CAPS[columns][2],
+    }
 }
 
 // The chances, each at most its cap.
@@ -107,21 +117,21 @@ pub fn adjusted_beat(velocity: f64, beat: f64) -> f64
 {
     let as_beat = -100.0 / velocity;
     if as_beat < 0.0 {
-        let x = floats::narrow(-as_beat).clamp(10.0, 10000.0);
+        let x = floats::clamp(10.0, 10000.0, floats::narrow(-as_beat));
         beat * (std::num::f32_to_f64_with_nan(x) / 100.0)
     } else {
         beat * 1.0
     }
 }
 
-// A missing distance is 0.
+// A missing distance is 0. A function, under its definition's name: the proof of `end_time` goes by its contract.
 pub fn distance_of(distance: Option<f64>) -> f64
     ensures { result ≡ Path.distance_of distance }
 {
     distance.unwrap_or(0.0)
 }
 
-// A missing first node sound is the object's own.
+// A missing first node sound is the object's own. A function as well: the proof of `new` goes by its contract.
 pub fn head_sound(node: Option<u8>, sound: u8) -> u8
     ensures { result ≡ Path.head_sound node sound }
 {
@@ -161,7 +171,8 @@ pub fn span_length(start: u32, end: u32, spans: u32) -> u32
     end.saturating_sub(start) / spans
 }
 
-// `new`
+// `new`. The facts, the previous values, the columns and the object, and a slider's own three values, one by one, as the definition takes them: `o` of another
+// kind has no such values.
 pub fn new(
     f: Facts,
     v: PrevValues,

@@ -2,28 +2,11 @@
 ghost use Rattle.std.specs.Prelude.{◌≡◌};
 ghost use Rattle.hit_object_lines.specs.Lines.{writing};
 ghost use Rattle.hit_object_lines.specs.Reading.{reading};
-ghost use Rattle.hit_object_lines.specs.Told.{told};
 ghost use Rattle.sumopine.specs.HitObjects.{outcome_number, outcome_length};
 
+use crate::measured;
 use hit_object_lines::write_lines;
 use hit_object_reader::read_lines;
-use rules::Refusal;
-
-// An answer as two numbers: 0 and how many bytes were written, or the refusal's number and 0.
-fn measured(answer: Result<usize, Refusal>, length: &mut u64) -> u32
-    ensures { (result ≡ outcome_number (told answer)) × (length.new ≡ outcome_length (told answer)) }
-{
-    match answer {
-        Ok(k) => {
-            *length = k as u64;
-            0
-        }
-        Err(refusal) => {
-            *length = 0;
-            u32::from(refusal)
-        }
-    }
-}
 
 // The lines of a chart.
 #[unsafe(no_mangle)]
@@ -36,7 +19,7 @@ pub extern "C" fn sumopine_write_hit_objects(chart: &[u8], text: &mut [u8], leng
     measured(answer, length)
 }
 
-// A chart of lines, with so many columns.
+// A chart of `columns` columns, from its lines.
 #[unsafe(no_mangle)]
 pub extern "C" fn sumopine_read_hit_objects(
     text: &[u8],

@@ -8,11 +8,36 @@ pub mod one_object;
 pub mod ranges;
 pub mod sheets;
 
-ghost use Rattle.std.specs.Prelude.{◌≡◌, cond};
+ghost use Rattle.std.specs.Prelude.{◌≡◌};
 ghost use Rattle.job.specs.Job.{job};
 ghost use Rattle.job.specs.Job as Job;
-ghost use Rattle.chart.specs.Chart.{index, reading, note_in};
-ghost use Rattle.sumopine.specs.Numbers.{number_of, length_of, object_of, longest_of, read_number, read_version, read_columns, read_notes, read_draws, is_found, column_in, hold_in, start_in, duration_in, told, has_object_in, object_in};
+ghost use Rattle.chart.specs.Chart.{reading, note_in};
+ghost use Rattle.sheet.specs.Sheet as Sheet;
+ghost use Rattle.hit_object_lines.specs.Told as Told;
+ghost use Rattle.sumopine.specs.HitObjects.{outcome_number, outcome_length};
+ghost use Rattle.sumopine.specs.Sheets.{sheet_number, sheet_length};
+ghost use Rattle.sumopine.specs.Numbers.{number_of, length_of, object_of, longest_of, read_number, read_version, read_columns, read_notes, read_draws, is_found, column_in, hold_in, start_in, duration_in, has_object_in, object_in};
+
+use rules::Refusal;
+
+// An answer as two numbers: 0 and how many bytes were written, or the refusal's number and 0. Two clauses, since the sheet and the lines have an outcome
+// each in their definitions. The other answers have arms of their own: one function for
+// them all would take a conversion and its contract, and be longer.
+fn measured(answer: Result<usize, Refusal>, length: &mut u64) -> u32
+    ensures lines { (result ≡ outcome_number (Told.told answer)) × (length.new ≡ outcome_length (Told.told answer)) }
+    ensures sheet { (result ≡ sheet_number (Sheet.told answer)) × (length.new ≡ sheet_length (Sheet.told answer)) }
+{
+    match answer {
+        Ok(k) => {
+            *length = k as u64;
+            0
+        }
+        Err(refusal) => {
+            *length = 0;
+            u32::from(refusal)
+        }
+    }
+}
 
 // A job, of a record's bytes: 0, the chart's length and the most draws of one search, or the refusal's number and the object's index; and the draws made.
 #[unsafe(no_mangle)]
@@ -83,26 +108,6 @@ pub extern "C" fn sumopine_read_chart(
     }
 }
 
-fn bit(flag: bool) -> u32
-    ensures { result ≡ cond flag 1 0 }
-{
-    u32::from(flag)
-}
-
-// Whether a note tells its object.
-fn is_told(origin: Option<u16>) -> u32
-    ensures { result ≡ told origin }
-{
-    u32::from(origin.is_some())
-}
-
-// The object that a note tells, else 0.
-fn object_in(origin: Option<u16>) -> u32
-    ensures { result ≡ index origin }
-{
-    u32::from(origin.unwrap_or(0))
-}
-
 // The note of an index, counted from 0: 1 and its fields where the bytes go on to its end, else 0 and zeros.
 #[unsafe(no_mangle)]
 pub extern "C" fn sumopine_note(
@@ -126,12 +131,11 @@ pub extern "C" fn sumopine_note(
     match chart_reader::note(chart, index) {
         Some(n) => {
             *column = n.column as u32;
-            *hold = bit(n.hold);
+            *hold = u32::from(n.hold);
             *start = n.start;
             *duration = n.duration;
-            let origin = n.origin;
-            *has_object = is_told(origin);
-            *object = object_in(origin);
+            *has_object = u32::from(n.origin.is_some());
+            *object = u32::from(n.origin.unwrap_or(0));
             1
         }
         None => {

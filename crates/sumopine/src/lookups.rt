@@ -1,12 +1,11 @@
 // The lookups of notes around a moment, for a host in C. A list of places is a slice of u32.
 ghost use Rattle.std.specs.Prelude.{◌≡◌};
-ghost use Rattle.chart_lookup.specs.Lookup.{listing, told};
+ghost use Rattle.chart_lookup.specs.Lookup.{Starting, Covering, listing, told};
 ghost use Rattle.chart_lookup.specs.Nearest.{sought};
-ghost use Rattle.chart_lookup.specs.declared.Wanted.TheVariants.{Starting, Covering};
 ghost use Rattle.sumopine.specs.Lookups.{lookup_number, lookup_count, is_place};
 
 use chart_lookup::nearest::nearest_note;
-use chart_lookup::{Wanted, list_notes};
+use chart_lookup::{holds_at, notes_between};
 use rules::Refusal;
 
 // A list lookup's answer as two numbers: 0 and how many places were written, 0 of them where nothing is found; or the refusal's number and 0.
@@ -42,11 +41,7 @@ pub extern "C" fn sumopine_notes_between(
     ensures count_after { count.new ≡ lookup_count (listing chart.now (Starting first second) places.old).0 }
     ensures places_after { places.new ≡ (listing chart.now (Starting first second) places.old).1 }
 {
-    let wanted = Wanted::Starting {
-        from: first,
-        to: second,
-    };
-    let answer = list_notes(chart, wanted, places);
+    let answer = notes_between(chart, first, second, places);
     counted(answer, count)
 }
 
@@ -62,7 +57,7 @@ pub extern "C" fn sumopine_holds_at(
     ensures count_after { count.new ≡ lookup_count (listing chart.now (Covering time) places.old).0 }
     ensures places_after { places.new ≡ (listing chart.now (Covering time) places.old).1 }
 {
-    let answer = list_notes(chart, Wanted::Covering { at: time }, places);
+    let answer = holds_at(chart, time, places);
     counted(answer, count)
 }
 

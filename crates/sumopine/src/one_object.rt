@@ -4,7 +4,8 @@ ghost use Rattle.object_numbers.specs.Single.{distance_of, node_of, kind_of, obj
 
 use random::Random;
 
-// Converts one object. A whole number may be anything: the contract is on the host's own numbers, also where a field cannot hold one. The state is lent and comes back in the same four words; the notes are written from the buffer's start.
+// Converts one object. A whole number may be anything: the contract is on the host's own numbers, also where a field cannot hold one. The state is lent
+// and comes back in the same four words; the notes are written from the buffer's start. Longer than 40 lines: C hands over 35 numbers one by one.
 #[unsafe(no_mangle)]
 pub extern "C" fn sumopine_object(
     difficulty: f64,
@@ -61,8 +62,8 @@ pub extern "C" fn sumopine_object(
         previous_last,
         previous_stair,
     );
-    let d = object_numbers::distance_of(has_distance, distance);
-    let n = object_numbers::node_of(has_node, node);
+    let d = object_numbers::given(has_distance, distance);
+    let n = object_numbers::given(has_node, object_numbers::saturate_u8(node));
     let k = object_numbers::kind_of(kind, repeats, d, n, duration);
     let o = object_numbers::object_of(x, y, start, sound, k);
     let c = object_numbers::saturate_u8(columns);

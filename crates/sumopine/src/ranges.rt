@@ -5,7 +5,7 @@ ghost use Rattle.sumopine.specs.Announced.{setting_range, distance_range, slider
 
 use announced::{Bounds, Slider};
 use model::Position;
-use object_numbers::{node_of, saturate_u8, saturate_u16};
+use object_numbers::{given, saturate_u8, saturate_u16};
 
 // The column counts that some f32 values in the ranges yield: 0 and a bit for each count, or the refusal's number and 0.
 #[unsafe(no_mangle)]
@@ -56,7 +56,7 @@ fn slider_of(
     ensures { result ≡ slider_of multiplier beat velocity x y start (saturate8 sound) (saturate16 repeats) has_node (saturate8 node) }
 {
     let position = Position { x, y };
-    let node = node_of(has_node, node);
+    let node = given(has_node, saturate_u8(node));
     Slider {
         multiplier,
         beat,

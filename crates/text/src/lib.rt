@@ -1,11 +1,13 @@
 // Text in ASCII codes, stored in a lent buffer: digits, decimal and hexadecimal numbers, and words.
+// By hand, not by Display or write!: std's writer to a slice does not say which bytes it writes, and there is no heap for a String.
+// Each function takes the buffer and an index: with both in a cursor, a contract would still say from which index of whose buffer, in longer words.
 #![tactic(auto)]
 
 ghost use Rattle.std.specs.Prelude.{◌≡◌, ◌+◌, ◌≤◌, ◌<◌, length, replicate};
 ghost use Rattle.chart.specs.Bytes.{splice};
 ghost use Rattle.text.specs.Text.{digit, digits, decimal, hex, right, named, with_hex};
 
-// The ASCII code of a digit: 0 to 9, then A to F.
+// The ASCII code of a digit: 0 to 9, then A to F. No table: tried, it takes about 3 instructions more for a decimal number.
 fn digit_code(d: u64) -> u8
     requires { d < 16 }
     ensures { result ≡ digit d }

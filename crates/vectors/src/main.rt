@@ -14,98 +14,68 @@ use list::{Entry, first_entry};
 use std::io;
 
 // What was counted: entries, those that differ, and the answers that were due, by number. Numbers are below 32.
-#[derive(Clone, Copy)]
+#[derive(Clone, Copy, Default)]
 struct Counts {
     entries: u32,
     differ: u32,
     due: [u32; 32],
 }
 
-fn counted(counts: Counts, number: u32, agrees: bool) -> Counts {
-    let mut due = counts.due;
-    let k = (number % 32) as usize;
-    due[k] = due[k].wrapping_add(1);
-    Counts {
-        entries: counts.entries.wrapping_add(1),
-        differ: counts.differ.wrapping_add(u32::from(!agrees)),
-        due,
+impl Counts {
+    fn count(&mut self, number: u32, agrees: bool) {
+        let k = (number % 32) as usize;
+        self.entries = self.entries.wrapping_add(1);
+        self.differ = self.differ.wrapping_add(u32::from(!agrees));
+        self.due[k] = self.due[k].wrapping_add(1);
     }
 }
 
-// Replays an entry. `agrees` takes what goes in, the numbers, the bytes that are due, and a buffer.
-fn replayed<F: Fn(&[u8], &[u8], &[u8], &mut [u8]) -> bool>(
-    entry: Entry,
-    agrees: &F,
-    buffer: &mut [u8],
-    counts: Counts,
-) -> Counts
+// Whether an entry ends as recorded: `agrees` takes it, and a buffer of the length that it says. One that has no room differs.
+fn replayed<F: Fn(Entry, &mut [u8]) -> bool>(entry: Entry, agrees: &F, buffer: &mut [u8]) -> bool
     requires { F.IsAlwaysCallable agrees.now }
 {
     let size = entry.buffer();
     if size > buffer.len() {
-        return counted(counts, entry.number(), false);
+        return false;
     }
     let lent = &mut buffer[..size];
     lent::fill(lent);
-    let same = agrees(entry.input, entry.numbers, entry.due, lent);
-    counted(counts, entry.number(), same)
+    agrees(entry, lent)
 }
 
 // Replays a list. One that is cut counts as one more entry that differs.
-fn replay<F: Fn(&[u8], &[u8], &[u8], &mut [u8]) -> bool>(
-    list: &[u8],
-    agrees: &F,
-    buffer: &mut [u8],
-) -> Counts
+fn replay<F: Fn(Entry, &mut [u8]) -> bool>(list: &[u8], agrees: &F, buffer: &mut [u8]) -> Counts
     requires { F.IsAlwaysCallable agrees.now }
 {
-    let mut counts = Counts {
-        entries: 0,
-        differ: 0,
-        due: [0; 32],
-    };
+    let mut counts = Counts::default();
     let mut list = list;
+    // By while: what is left of the list tells when it ends.
     while !list.is_empty() {
         let Some((first, rest)) = first_entry(list) else {
-            return counted(counts, 0, false);
+            counts.count(0, false);
+            return counts;
         };
-        counts = replayed(first, agrees, buffer, counts);
+        let same = replayed(first, agrees, buffer);
+        counts.count(first.number(), same);
         list = rest;
     }
     counts
 }
 
-// Prints a word and a number.
-fn print(rt: &impl Print, word: &str, n: u32) -> io::Result<()> {
-    print!(rt; "{word}{n}")
-}
-
-fn print_refusals(rt: &impl Print, number: u32, count: u32) -> io::Result<()> {
-    if count > 0 {
-        print(rt, "refused ", number)?;
-        print(rt, ": ", count)?;
-        println!(rt)?;
+fn print_refusals(rt: &impl Print, due: [u32; 32]) -> io::Result<()> {
+    for (number, count) in due.iter().enumerate().skip(1) {
+        if *count > 0 {
+            println!(rt; "refused {number}: {count}")?;
+        }
     }
     Ok(())
 }
 
-fn print_all_refusals(rt: &impl Print, due: [u32; 32]) -> io::Result<()> {
-    for i in 1..32 {
-        print_refusals(rt, i, due[i as usize])?;
-    }
-    Ok(())
-}
-
-// Prints the counts of a list of so-named entries; `accepted` is the word for an answer that is no refusal.
+// Prints the counts of a list. `entries` is the word for its entries, `accepted` the one for an answer that is no refusal.
 fn report(rt: &impl Print, entries: &str, accepted: &str, counts: Counts) -> io::Result<()> {
-    print(rt, "", counts.entries)?;
-    print!(rt; "{entries}")?;
-    print(rt, ", ", counts.differ)?;
-    println!(rt; " differ")?;
-    let due = counts.due;
-    print(rt, accepted, due[0])?;
-    println!(rt)?;
-    print_all_refusals(rt, due)
+    println!(rt; "{}{entries}, {} differ", counts.entries, counts.differ)?;
+    println!(rt; "{accepted}{}", counts.due[0])?;
+    print_refusals(rt, counts.due)
 }
 
 fn main(rt: HostRuntime) -> io::Result<()> {

@@ -1,6 +1,7 @@
 // Numbers in bytes, the highest byte first. Where the bytes end before a number does, it is 0.
 ghost use Rattle.std.specs.Prelude.{◌^◌, ◌<◌, ◌≤◌};
 
+// For 1, 2, 4 and 8 bytes. `from_be_bytes` would be no plainer: it is another function for each size, and takes an array.
 fn number(s: &[u8], at: usize, size: usize) -> u64
     requires { size ≤ 8 }
     ensures { result < 256 ^ size }
@@ -14,6 +15,7 @@ fn number(s: &[u8], at: usize, size: usize) -> u64
     chart::bytes::get(s, at, size)
 }
 
+// One word for each field of a list: a generic one over five types would be longer than these.
 pub fn byte(s: &[u8], at: usize) -> u8 {
     number(s, at, 1) as u8
 }

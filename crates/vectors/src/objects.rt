@@ -1,7 +1,11 @@
 // A single object: what goes in are the parameters of `sumopine_object` up to the duration, in their order, and the four words of the state. Flags
 // and the kind have 32 bits, mask and repeats 16, last column, columns and sounds 8. Its numbers go on with the count of notes, mask, last
-// column, stair, state and draws; what is due are its notes.
+// column, stair, state and draws; what is due are its notes. The places are those of sumopine_object's parameters in an entry, as oracle/compare writes
+// them.
+ghost use Rattle.std.specs.Prelude.{◌<◌};
+
 use crate::lent::holds;
+use crate::list::Entry;
 use crate::numbers::{byte, double, half, single, word};
 use mania::{Facts, PrevValues};
 use model::Object;
@@ -31,8 +35,8 @@ fn previous(s: &[u8]) -> PrevValues {
 }
 
 fn object(s: &[u8]) -> Object {
-    let distance = object_numbers::distance_of(word(s, 91), double(s, 95));
-    let node = object_numbers::node_of(word(s, 103), byte(s, 107) as u32);
+    let distance = object_numbers::given(word(s, 91), double(s, 95));
+    let node = object_numbers::given(word(s, 103), byte(s, 107));
     let kind = object_numbers::kind_of(
         word(s, 85),
         half(s, 89) as u32,
@@ -49,39 +53,43 @@ fn object(s: &[u8]) -> Object {
     )
 }
 
-fn state(s: &[u8]) -> Random {
+fn state(s: &[u8], at: usize) -> Random
+    requires { at < 256 }
+{
     Random {
-        x: word(s, 116),
-        y: word(s, 120),
-        z: word(s, 124),
-        w: word(s, 128),
+        x: word(s, at),
+        y: word(s, at + 4),
+        z: word(s, at + 8),
+        w: word(s, at + 12),
     }
 }
 
+// By hand: `==` on a `Told` made of these words would be no shorter, and a state and a `Told` would need a derive for it alone.
 fn same_numbers(t: Told, numbers: &[u8]) -> bool {
-    let state = t.state;
+    let due = state(numbers, 28);
     t.number == word(numbers, 8)
         && t.count == word(numbers, 12)
         && t.mask == word(numbers, 16)
         && t.last == word(numbers, 20)
         && t.stair == word(numbers, 24)
-        && state.x == word(numbers, 28)
-        && state.y == word(numbers, 32)
-        && state.z == word(numbers, 36)
-        && state.w == word(numbers, 40)
+        && t.state.x == due.x
+        && t.state.y == due.y
+        && t.state.z == due.z
+        && t.state.w == due.w
         && t.draws == word(numbers, 44)
 }
 
 // Whether an object ends as recorded, in every number and in every byte of the buffer.
-pub fn agrees(s: &[u8], numbers: &[u8], due: &[u8], notes: &mut [u8]) -> bool {
+pub fn agrees(entry: Entry, notes: &mut [u8]) -> bool {
+    let s = entry.input;
     let end = single::convert_object(
         facts(s),
         previous(s),
         byte(s, 67),
         object(s),
-        state(s),
-        word(numbers, 4),
+        state(s, 116),
+        word(entry.numbers, 4),
         notes,
     );
-    same_numbers(object_numbers::tell(end), numbers) && holds(notes, due)
+    same_numbers(object_numbers::tell(end), entry.numbers) && holds(notes, entry.due)
 }

@@ -3,7 +3,7 @@
 
 ghost use Rattle.std.specs.Prelude.{◌≡◌, ℕ, ◌+◌, ◌^◌, ◌≤◌, ◌<◌, List, length};
 ghost use Rattle.chart.specs.Layout.{indices, most_in_chart};
-ghost use Rattle.model.specs.Limits.{most_entries, most_notes};
+ghost use Rattle.model.specs.Limits.{most_notes};
 ghost use Rattle.rules.specs.Each.{Each};
 ghost use Rattle.record.specs.Object.{objects};
 ghost use Rattle.mania.specs.Convert as Convert;
@@ -24,6 +24,7 @@ use notes::put_notes;
 use pattern::Made;
 use points::{Lasting, Passed, difficulty_point_at, effect_point_at, timing_point_at};
 use random::{Draws, Outcome, Refused};
+use record::entries::Entries;
 use record::layout::ENTRY;
 use record_object::read_object;
 use rules::Refusal;
@@ -47,103 +48,63 @@ fn span_of(f: Facts, o: Object, repeats: u16, distance: Option<f64>) -> u32
 }
 
 // The same of any object: 0 where it has no spans.
+#[tactic(auto, unfolding(mania::specs::Convert::span_in))]
 fn span_in(f: Facts, o: Object) -> u32
     ensures { result ≡ span_in f o o.kind }
 {
-    let kind = o.kind;
-    match kind {
-        Kind::Circle => 0,
+    match o.kind {
         Kind::Slider {
             repeats,
             distance,
             ..
         } => span_of(f, o, repeats, distance),
-        Kind::Spinner(_) => 0,
-        Kind::Hold(_) => 0,
+        _ => 0,
     }
 }
 
 // The density that an object meets: a circle counts in it.
+#[tactic(auto, unfolding(mania::specs::Convert::meets))]
 fn meets(o: Object, d: Density) -> Density
     ensures { queued result ≡ Convert.meets o.kind o.start (queued d) }
 {
-    let kind = o.kind;
-    match kind {
+    match o.kind {
         Kind::Circle => compute_density(d, o.start),
-        Kind::Slider { .. } => d,
-        Kind::Spinner(_) => d,
-        Kind::Hold(_) => d,
+        _ => d,
     }
 }
 
 // The density after an object whose span length is given.
+#[tactic(auto, unfolding(mania::specs::Convert::leaves))]
 fn density_after(o: Object, span: u32, d: Density) -> Density
     ensures { queued result ≡ leaves o span o.kind (queued d) }
 {
-    let kind = o.kind;
-    match kind {
+    match o.kind {
         Kind::Circle => d,
         Kind::Slider { repeats, .. } => nodes(d, o, span, repeats as u32 + 2),
-        Kind::Spinner(duration) => compute_density(d, o.start + duration),
-        Kind::Hold(duration) => compute_density(d, o.start + duration),
+        Kind::Spinner(duration) | Kind::Hold(duration) => compute_density(d, o.start + duration),
     }
 }
 
 // The previous time after an object whose span length is given.
+#[tactic(auto, unfolding(mania::specs::Convert::time_after))]
 fn time_after(o: Object, span: u32) -> f64
     ensures { result ≡ time_after o span o.kind }
 {
-    let kind = o.kind;
-    match kind {
+    match o.kind {
         Kind::Circle => o.start,
         Kind::Slider { repeats, .. } => node_time(o, span, repeats as u32 + 1),
-        Kind::Spinner(duration) => o.start + duration,
-        Kind::Hold(duration) => o.start + duration,
+        Kind::Spinner(duration) | Kind::Hold(duration) => o.start + duration,
     }
 }
 
 // The previous position after an object.
+#[tactic(auto, unfolding(mania::specs::Convert::position_after))]
 fn position_after(o: Object) -> Position
     ensures { result ≡ position_after o o.kind }
 {
-    let kind = o.kind;
-    match kind {
-        Kind::Circle => o.position,
-        Kind::Slider { .. } => o.position,
-        Kind::Spinner(_) => Position { x: 256.0, y: 192.0 },
-        Kind::Hold(_) => Position { x: 256.0, y: 192.0 },
-    }
-}
-
-// What the walk keeps after an object that left a mask, a last column and a stair, and made `count` notes.
-fn after_object(
-    f: Facts,
-    o: Object,
-    met: Density,
-    mask: u16,
-    last: u8,
-    stair: Stair,
-    count: u32,
-    w: Walk,
-) -> Walk
-    requires { w.notes + count < 2 ^ 32 }
-    ensures { walk_of result ≡ walk_after f o (queued met) mask last stair count (walk_of w) }
-{
-    let span = span_in(f, o);
-    let time = time_after(o, span);
-    let position = position_after(o);
-    let density = density_after(o, span, met);
-    let notes = w.notes + count;
-    Walk {
-        prev: PrevValues {
-            time,
-            position,
-            mask,
-            last,
-            stair,
-        },
-        density,
-        notes,
+    match o.kind {
+        Kind::Circle | Kind::Slider { .. } => o.position,
+        Kind::Spinner(_) | Kind::Hold(_) => Position { x: 256.0, y: 192.0 },
     }
 }
 
@@ -157,7 +118,8 @@ pub struct PointCounts {
     pub effect: usize,
 }
 
-// The numbers that the walk takes of a song. Nothing is asked of the difficulty: it may be any that the single-object entry allows.
+// The numbers that the walk takes of a song. Nothing is asked of the difficulty: it may be any that the single-object entry
+// allows. What is asked of the columns stands in `Given` beside what the points are asked, and once where an object is converted.
 #[derive(Clone, Copy)]
 pub struct Song {
     pub columns: u8,
@@ -174,7 +136,7 @@ pub struct InForce {
     pub kiai: Lasting<bool>,
 }
 
-// What the walk begins with: values that are in force at no time. No option: it would be tested at each object.
+// What the walk begins with: values that are in force at no time. No `Option`: the test that each object has then serves the first.
 fn none_in_force() -> InForce
     ensures { (points : List ℕ) (g : Song) → InForceOf points g result }
 {
@@ -200,14 +162,24 @@ fn in_force_at(points: &[u8], g: Song, c: InForce, t: f64) -> InForce
     ensures { InForceOf points.now g result × InForceAt points.now g t result }
 {
     let n = g.points;
-    let difficulty = ENTRY * n.timing;
-    let effect = difficulty + ENTRY * n.difficulty;
-    let b = c.beat;
-    let v = c.velocity;
-    let k = c.kiai;
-    let beat = timing_point_at(points, 0, n.timing, b, t);
-    let velocity = difficulty_point_at(points, difficulty, n.difficulty, v, t);
-    let kiai = effect_point_at(points, effect, n.effect, k, t);
+    let timing = Entries {
+        s: points,
+        at: 0,
+        count: n.timing,
+    };
+    let difficulty = Entries {
+        s: points,
+        at: ENTRY * n.timing,
+        count: n.difficulty,
+    };
+    let effect = Entries {
+        s: points,
+        at: difficulty.at + ENTRY * n.difficulty,
+        count: n.effect,
+    };
+    let beat = timing_point_at(timing, c.beat, t);
+    let velocity = difficulty_point_at(difficulty, c.velocity, t);
+    let kiai = effect_point_at(effect, c.kiai, t);
     InForce {
         beat,
         velocity,
@@ -238,6 +210,25 @@ fn meet(g: Song, c: InForce, before: Density, o: Object) -> Met
     Met { density, facts }
 }
 
+// What the walk keeps after an object that met m, and of which `made` came.
+fn after_object(o: Object, m: Met, made: Made, w: Walk) -> Walk
+    requires { w.notes + made.pattern.count < 2 ^ 32 }
+    ensures { walk_of result ≡ walk_after m.facts o (queued m.density) made.pattern.mask made.pattern.last made.stair made.pattern.count (walk_of w) }
+{
+    let span = span_in(m.facts, o);
+    Walk {
+        prev: PrevValues {
+            time: time_after(o, span),
+            position: position_after(o),
+            mask: made.pattern.mask,
+            last: made.pattern.last,
+            stair: made.stair,
+        },
+        density: density_after(o, span, m.density),
+        notes: w.notes + made.pattern.count as u32,
+    }
+}
+
 // Writes an object's notes after those of the objects before it, and gives what the walk keeps then; or 11, where the chart has no room for them.
 fn keep(
     chart: &mut [u8],
@@ -252,8 +243,7 @@ fn keep(
     requires { (index < indices) × (made.pattern.count ≤ most_notes) × (most_notes ≤ length words.now) × (w.notes ≤ most_in_chart) }
     ensures { Keeps chart.old chart.new words.now index o m made w d result }
 {
-    let p = made.pattern;
-    let count = p.count;
+    let count = made.pattern.count;
     let before = w.notes as usize;
     if chart.len() < HEADER_SIZE + NOTE_SIZE * (before + count) {
         return Err(Refused {
@@ -264,25 +254,13 @@ fn keep(
     put_notes(
         index as u16,
         o,
-        words,
-        count,
-        chart,
-        HEADER_SIZE + NOTE_SIZE * before,
+        &words[..count],
+        &mut chart[HEADER_SIZE + NOTE_SIZE * before..],
     );
-    let walk = after_object(
-        m.facts,
-        o,
-        m.density,
-        p.mask,
-        p.last,
-        made.stair,
-        count as u32,
-        w,
-    );
-    Ok((walk, d))
+    Ok((after_object(o, m, made, w), d))
 }
 
-// An object is converted, and its notes are written.
+// An object is converted, and its notes are written. Both buffers are lent, as object has it.
 fn convert_object(
     chart: &mut [u8],
     words: &mut [u64],
@@ -315,42 +293,35 @@ fn beginning() -> Walk
 {
     let density = density::new();
     Walk {
-        prev: PrevValues {
-            time: 0.0,
-            position: Position { x: 0.0, y: 0.0 },
-            mask: 0,
-            last: 0,
-            stair: Stair::Up,
-        },
+        prev: PrevValues::NONE,
         density,
         notes: 0,
     }
 }
 
-// The walk over `count` objects from bit `at` of `part` on; `points` is the part of the record that starts with the first timing point. It gives how many
-// notes it made, which stand in walk order from byte 8 of the chart on, and the draws after it.
+// The walk over a list's objects; `points` is the part of the record that starts with the first timing point. It gives how many notes it made, which stand
+// in walk order from byte 8 of the chart on, and the draws after it.
 pub fn walk_objects(
     points: &[u8],
-    part: &[u8],
+    list: Entries,
     chart: &mut [u8],
     words: &mut [u64],
     spare: &mut [u64],
     g: Song,
-    at: usize,
-    count: u32,
     d: Draws,
 ) -> Result<(u32, Draws), Stopped>
-    requires { Given points.now g × Each InRange (objects part.now at count) × (at ≤ 7) × (count ≤ most_entries) × (8 ≤ length chart.old) × (most_notes ≤ length words.old) × (most_notes ≤ length spare.old) }
-    ensures { Ends (rule points.now part.now g (length chart.old) at count d) chart.old chart.new result }
+    requires { Given points.now g × Each InRange (objects list.s.now list.at list.count) × (list.at ≤ 7) × (8 ≤ length chart.old) × (most_notes ≤ length words.old) × (most_notes ≤ length spare.old) }
+    ensures { Ends (rule points.now list.entry.s.now g (length chart.old) list.entry.at list.entry.count d) chart.old chart.new result }
 {
     let mut w = beginning();
     let mut c = none_in_force();
-    let mut here = at;
+    let mut here = list.at;
     let mut rest = d;
-    for i in 0..count {
-        let read = read_object(part, here);
+    for i in 0..list.count as u32 {
+        let read = read_object(list.s, here);
         let o = read.object;
         c = in_force_at(points, g, c, o.start);
+        // A match, and no `map_err` with `?`: with them the job of examples/song.job takes 1.2 percent more instructions.
         match convert_object(chart, words, spare, g, c, w, i, o, rest) {
             Ok((after, left)) => {
                 w = after;

@@ -1,6 +1,7 @@
 -- The nearest note of a column: what `nearest` gives, and how it is known.
 -- Assumes nothing.
-use Rattle.std.specs.Prelude.{◌≡◌, Bool, cond, List, ℕ, zero, suc, ◌+◌, ◌≤◌, ◌<◌, leb, ℤ, pos, get_or, drop}
+use Rattle.std.specs.Prelude.{◌≡◌, Bool, cond, List, ℕ, zero, suc, ◌+◌, ◌≤◌, ◌<◌, leb, ℤ, pos, get_or, drop, Some, None, Ok}
+use Rattle.std.specs.Prelude as Std
 use Rattle.std.proofs.Math.Path.{refl}
 use Rattle.std.proofs.Common.{sym, ◌∙◌, subst, le_refl, le_of_lt, lt_of_lt_of_le, lt_irrefl, drop_of_length-le, drop-cons}
 use Rattle.std.proofs.Math.Bool.{true, false}
@@ -20,8 +21,8 @@ use Rattle.floats.specs.Format.{infinity}
 use Rattle.chart.specs.Laws.Times.{ticks_mono, le_or_lt}
 use Rattle.exact_times.specs.Laws.Instants.{ticks_le, farther_after, farther_before, strictly_farther}
 use Rattle.chart.specs.Chart.{notes_in, blank}
-use Rattle.chart_lookup.specs.Lookup.{nothing, found}
-use Rattle.chart_lookup.specs.Search.{Parts, Next, Last}
+use Rattle.chart_lookup.specs.Lookup.{nothing, found, told}
+use Rattle.chart_lookup.specs.Search.{Parts, Next, Following, Last}
 use Rattle.chart.specs.Laws.Reader.{note_known}
 use Rattle.chart_lookup.specs.Laws.Notes.{rise}
 use Rattle.chart_lookup.specs.Nearest.{away, better, taken, nearest, placed}
@@ -215,3 +216,18 @@ module _ (s : List ℕ) (column : ℕ) (t : ℤ) (a end next last : ℕ) (side :
       where
         not_between : (equal first : ℕ) → Next (notes_in s) column equal first → (q : ℕ) → q < first → (get_or (notes_in s) q blank).column ≡ column → q < equal
         not_between equal first F q k e = ⊎_elim (λ (h : equal ≤ q). absurd (F.none_before q h k e)) (λ (h : q < equal). h) (le_or_lt equal q)
+
+-- ---- what the code answers
+
+-- the next note of the column from a place on, where that is the nearest one
+pub settled : (column : ℕ) (t : ℤ) (ns : List Note) (i : ℕ) (o : Std.Option ℕ) → Following ns column i o → ((k : ℕ) → Next ns column i k → Least column t ns (length ns) k)
+    → told (Ok o) ≡ placed (nearest column t none 0 ns)
+settled column t ns i (Some k) N least = sym (is_nearest column t ns k (least k N.1))
+settled column t ns i None N least = absurd (lt_irrefl (length ns) (least (length ns) N).there)
+
+module _ (s : List ℕ) (column : ℕ) (t : ℤ) (a end : ℕ) (side : (p : ℕ) → p < infinity → leb a p ≡ le_z t (pos (ticks (time p)))) (A : Parts (notes_in s) a end) where
+  -- no note of the column before the instant
+  pub without_last : (last : ℕ) → Last (notes_in s) column end last → last ≡ 0 → (o : Std.Option ℕ) → Following (notes_in s) column end o
+      → told (Ok o) ≡ placed (nearest column t none 0 (notes_in s))
+  without_last last L z (Some k) N = sym (is_nearest column t (notes_in s) k (only_next s column t a end k last side A N.1 L z N.0))
+  without_last last L z None N = sym (is_nothing column t (notes_in s) (no_note s column t a end (length (notes_in s)) last side A N L z (le_refl (length (notes_in s)))))

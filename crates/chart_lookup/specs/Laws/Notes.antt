@@ -14,8 +14,7 @@ use Rattle.chart.specs.declared.Note.{Note}
 use Rattle.chart.specs.Tests.{both, passes}
 use Rattle.chart.specs.Chart.{Score, accepted, reading_of, decode, ok_note, ok_notes, note_tests, notes_read, notes_in, blank}
 use Rattle.chart.specs.Laws.Reader.{columns_few, notes_ok}
-use Rattle.chart_lookup.specs.declared.Wanted.{Wanted}
-use Rattle.chart_lookup.specs.Lookup.{listed, looked}
+use Rattle.chart_lookup.specs.Lookup.{Wanted, listed, looked}
 use Rattle.chart_lookup.specs.Nearest.{seeking, sought_in}
 
 -- ---- starts never fall

@@ -1,7 +1,7 @@
 -- The notes that are asked for, by where their starts lie: those that start within two times follow one another, and no hold that covers an
 -- instant starts after it.
 -- Assumes nothing.
-use Rattle.std.specs.Prelude.{◌≡◌, true, false, ◌&&◌, List, ℕ, ◌+◌, ◌-◌, ◌≤◌, ◌<◌, T, leb, ltb, Float, length, get_or}
+use Rattle.std.specs.Prelude.{◌≡◌, true, false, ◌&&◌, List, ℕ, ◌+◌, ◌-◌, ◌≤◌, ◌<◌, T, leb, ltb, Float, length, get_or, Option, Some, None, unwrap_or, MatchOption}
 use Rattle.std.proofs.Common.{sym, ap, ◌∙◌, ⊎_elim, zero-add, arith, le-leb, lt-ltb, le-ltb}
 use Rattle.std.proofs.Math.Bool.{and-false}
 use Rattle.std.specs.Float.{binary64}
@@ -11,10 +11,9 @@ use Rattle.std.proofs.lemmas.Bool.{lt-leb}
 use Rattle.chart.specs.Laws.Times.{le_or_lt}
 use Rattle.exact_times.specs.Instants.{covers_at, FirstAt, FirstAfter}
 use Rattle.exact_times.specs.Laws.Instants.{le_instant, instant_le}
-use Rattle.chart_lookup.specs.declared.Wanted.TheVariants.{Starting, Covering}
 use Rattle.chart.specs.Chart.{notes_in, blank}
-use Rattle.chart_lookup.specs.Lookup.{wanted, places}
-use Rattle.chart_lookup.specs.Search.{Parts, NoneFrom, run}
+use Rattle.chart_lookup.specs.Lookup.{Starting, Covering, wanted, places}
+use Rattle.chart_lookup.specs.Search.{Parts, NoneFrom, run, held_from}
 use Rattle.chart.specs.Laws.Reader.{note_known}
 use Rattle.chart_lookup.specs.Laws.Places.{places_skip, places_none, places_run}
 
@@ -55,3 +54,12 @@ pub none_covers : (s : List ℕ) (at : Float) (b end : ℕ) → FirstAfter at b 
 unfolding wanted covers_at FirstAfter
 none_covers s at b end h B j l k =
     rw (sym (h (get_or (notes_in s) j blank).start (note_known s j k).1.0) ∙ le-ltb (get_or (notes_in s) j blank).start b (B.after j l k)) (and-false (get_or (notes_in s) j blank).hold)
+
+-- the first hold that covers an instant, as a search of the places before one finds it: those from it on are all
+pub first_held : (s : List ℕ) (at : Float) (end : ℕ) → end ≤ length (notes_in s) → (o : Option ℕ)
+    → MatchOption o ((k : ℕ) → 0 ≤ k → k < end → wanted (Covering at) (get_or (notes_in s) k blank) ≡ false)
+    (λ i. (0 ≤ i) × (i < end) × (wanted (Covering at) (get_or (notes_in s) i blank) ≡ true) × ((k : ℕ) → 0 ≤ k → k < i → wanted (Covering at) (get_or (notes_in s) k blank) ≡ false))
+    → (unwrap_or o end ≤ end) × (held_from at (unwrap_or o end) s ≡ held_from at 0 s)
+first_held s at end l (Some i) f =
+    (omega (arith, f.1), sym (rw (zero-add i) at (places_skip (wanted (Covering at)) (notes_in s) i 0 (omega (arith, f.1)) (λ j a b. f.3 j a (omega arith)))))
+first_held s at end l None f = (omega arith, sym (rw (zero-add end) at (places_skip (wanted (Covering at)) (notes_in s) end 0 (omega arith) (λ j a b. f j a (omega arith)))))

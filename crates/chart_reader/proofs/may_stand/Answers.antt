@@ -15,13 +15,13 @@ pub returns-then-n-columns : goal.returns-then-n-columns
 unfolding note_tests
 returns-then-n-columns c = note_refused _ _ _ 0 (le-ltb _ _ c.if-n-columns.true)
 
-pub returns-then-n-ge-INFINITY : goal.returns-then-n-ge-INFINITY
+pub returns-then-n-ge-INFINITY_BITS : goal.returns-then-n-ge-INFINITY_BITS
 unfolding note_tests
-returns-then-n-ge-INFINITY c = note_refused _ _ _ 1 (time_above _ c.if-n-ge-INFINITY.true)
+returns-then-n-ge-INFINITY_BITS c = note_refused _ _ _ 1 (time_above _ c.if-n-ge-INFINITY_BITS.true)
 
-pub returns-then-n-ge-INFINITY-2 : goal.returns-then-n-ge-INFINITY-2
+pub returns-then-n-ge-INFINITY_BITS-2 : goal.returns-then-n-ge-INFINITY_BITS-2
 unfolding note_tests
-returns-then-n-ge-INFINITY-2 c = note_refused _ _ _ 2 (time_above _ c.if-n-ge-INFINITY-2.true)
+returns-then-n-ge-INFINITY_BITS-2 c = note_refused _ _ _ 2 (time_above _ c.if-n-ge-INFINITY_BITS-2.true)
 
 pub returns-then-precedes : goal.returns-then-precedes
 unfolding note_tests

@@ -16,7 +16,7 @@ loop-i-init c = (search rules, rw (sub-zero, chart_none))
 
 pub zeros_ok-requires : goal.zeros_ok-requires
 zeros_ok-requires c =
-    rw c.place-at.ensures.0 (le_trans (chart_room c.args.version c.loop-i.i c.args.count c.loop-i-test.true) c.requires.1)
+    rw c.place-at.ensures.0 (le_trans (chart_room c.args.header.version c.loop-i.i c.args.header.notes c.loop-i-test.true) c.requires.1)
 
 pub returns-then-not-zeros_ok : goal.returns-then-not-zeros_ok
 returns-then-not-zeros_ok c =
@@ -27,7 +27,7 @@ returns-then-not-zeros_ok c =
 pub note_in-n-requires : goal.note_in-n-requires
 note_in-n-requires c =
     rw c.place-at.ensures.0
-    (le_trans (chart_room c.args.version c.loop-i.i c.args.count c.loop-i-test.true) c.requires.1)
+    (le_trans (chart_room c.args.header.version c.loop-i.i c.args.header.notes c.loop-i-test.true) c.requires.1)
 
 pub returns-then-not-may_stand : goal.returns-then-not-may_stand
 returns-then-not-may_stand c =
@@ -45,7 +45,7 @@ loop-i-preserved c =
     let note = c.note_in-n.ensures in
     let here = rw (note, place) at good in
     let zeros = rw place at (sym c.zeros_ok.ensures ∙ c.if-not-zeros_ok.false) in
-    let on = ltb-true c.note_in-n.result.column c.args.columns (passes (note_tests _ _ c.note_in-n.result) good 0) in
+    let on = ltb-true c.note_in-n.result.column c.args.header.columns (passes (note_tests _ _ c.note_in-n.result) good 0) in
     (lt_trans on c.requires.0, rw (note, place) (sym (row_next _ _ _ _ _ c.args.chart.now more (eqb-true _ 0 zeros) here) ∙ c.loop-i.invariant.1))
 
 pub returns : goal.returns

@@ -21,14 +21,14 @@ put_head_line-at-requires c = omega (arith, (said (goal.at.put_head_line-at-requ
 pub put_note_lines-requires : goal.put_note_lines-requires
 put_note_lines-requires c =
     let is = said (goal.at.put_note_lines-requires c).In-Ok in
-    (is.number, omega (arith, is.size, c.requires, c.put_head_line-at.ensures.value.1, c.put_head_line-at.auto.s))
+    omega (arith, is.size, c.requires, c.new.ensures.1, c.put_head_line-at.ensures.value.1, c.put_head_line-at.auto.s)
 
 pub returns-in-Ok : goal.returns-in-Ok
 returns-in-Ok c =
     let is = said (goal.at.returns-in-Ok c).In-Ok in
     let fits : c.put_note_lines.result ≤ length c.args.s.now =
-    omega (arith, is.size, c.requires, c.put_head_line-at.ensures.value.1, c.put_note_lines.ensures.value.1) in
-    let lines = wrote_next _ (wrote_first _ c.put_head_line-at.ensures.s_after c.put_head_line-at.ensures.value.0) c.put_note_lines.ensures.s_after c.put_note_lines.ensures.value.0 fits in
+    omega (arith, is.size, c.requires, c.new.ensures.1, c.put_head_line-at.ensures.value.1, c.put_note_lines.ensures.value.1) in
+    let lines = wrote_next _ (wrote_first _ c.put_head_line-at.ensures.s_after c.put_head_line-at.ensures.value.0) (rw c.new.ensures.0 at c.put_note_lines.ensures.s_after) (rw c.new.ensures.0 at c.put_note_lines.ensures.value.0) fits in
     rw is.is (record { value = (lines.next ∙ zero-add _, fits); s_after = lines.bytes })
 
 pub returns-in-Err : goal.returns-in-Err

@@ -9,5 +9,5 @@ abbrev pub invariant-loop-i : goal.invariant-loop-i
 invariant-loop-i l =
     record {
       most : l.next ≤ l.at + 51 * l.i;
-      lines : Wrote l.initial.s l.at (note_lines (take l.i (notes_in l.chart))) l.s l.next;
+      lines : Wrote l.initial.s l.at (note_lines (take l.i (notes_in l.notes.chart.now))) l.s l.next;
     }

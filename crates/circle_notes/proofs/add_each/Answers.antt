@@ -18,7 +18,7 @@ use Rattle.circle_notes.proofs.add_each.Goals as goal
 pub loop-i-init : goal.loop-i-init
 loop-i-init g c =
     let a = c.args in
-    (refl, omega arith, λ t h. rw c.random_start-low.ensures (ap (λ (p : Pattern Note). on (add_each a.g t (a.g.columns - random_start a.g.columns) (random_start a.g.columns) p) a.d) (empty_is _ _)))
+    (refl, omega arith, λ t h. rw c.random_start-low.ensures (ap (λ (p : Pattern Note). on (add_each a.circle.g t (a.circle.g.columns - random_start a.circle.g.columns) (random_start a.circle.g.columns) p) a.d) (empty_is _ _)))
 
 pub returns-in_err-q : goal.returns-in_err-q
 returns-in_err-q g c =
@@ -45,4 +45,4 @@ shape_of-words g c = c.loop-i.invariant.0
 pub returns : goal.returns
 returns g c =
     let l = c.loop-i in
-    (λ t h. sym (each_end _ _ _ _ _ c.loop-i-test.false) ∙ l.invariant.2 t h, omega (arith, rw c.random_start-low.ensures at l.auto.i-end, start_le c.args.g.columns, l.invariant.1))
+    (λ t h. sym (each_end _ _ _ _ _ c.loop-i-test.false) ∙ l.invariant.2 t h, omega (arith, rw c.random_start-low.ensures at l.auto.i-end, start_le c.args.circle.g.columns, l.invariant.1))

@@ -10,4 +10,4 @@ use Rattle.circle_notes.proofs.add_each.Given as goal
 abbrev pub invariant-loop-i : goal.invariant-loop-i
 invariant-loop-i g l =
     (length l.words ≡ length l.initial.words) × (l.p.count ≤ l.i)
-    × ((t : ℕ → ℕ) → ((i c : ℕ) → i < l.g.columns → goal.F-post g l.to i c → c ≡ t i) → on (add_each l.g t (l.g.columns - l.i) l.i (pattern (circle_at l.g.start) l.words l.p)) l.rest ≡ on (each l.g t) l.initial.rest)
+    × ((t : ℕ → ℕ) → ((i c : ℕ) → i < l.circle.g.columns → goal.F-post g l.to i c → c ≡ t i) → on (add_each l.circle.g t (l.circle.g.columns - l.i) l.i (pattern (circle_at l.circle.g.start) l.words l.p)) l.rest ≡ on (each l.circle.g t) l.initial.rest)

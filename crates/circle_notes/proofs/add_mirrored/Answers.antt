@@ -26,16 +26,15 @@ loop-init c =
       same = refl;
       many = omega arith;
       fine = omega arith;
-      goes = rw e (ap (λ (p : Pattern Note). on (add_mirrored a.g a.n a.first p) a.d) (empty_is _ _));
+      goes = rw e (ap (λ (p : Pattern Note). on (add_mirrored a.circle.g a.n a.first p) a.d) (empty_is _ _));
     }
 
 -- the first column of the search is in the left half
-low : (c : After-random_start-low) → c.random_start-low.result < c.args.g.columns / 2
+low : (c : After-random_start-low) → c.random_start-low.result < c.args.circle.g.columns / 2
 low c = rw c.random_start-low.ensures (start_small _ (omega arith))
 
-pub find_available_column-requires : goal.find_available_column-requires
-find_available_column-requires c =
-    (omega arith, omega arith, low (goal.at.find_available_column-requires c).After-random_start-low, omega arith)
+pub invariant_of-search-clause-some : goal.invariant_of-search-clause-some
+invariant_of-search-clause-some c = low (goal.at.invariant_of-search-clause-some c).After-random_start-low
 
 pub returns-in_err-c : goal.returns-in_err-c
 unfolding pattern
@@ -43,7 +42,7 @@ returns-in_err-c c =
     let x = leaves_placed _ (find_available_column _ _ _ _ _ _) _ _ _ _ _ _ _ _ c.find_available_column.ensures c.in_err-c.was c.from_residual.ensures.1 in
     (x.0 ∙ sym (mirrored_more _ _ _ _ _ (omega (arith, c.loop-test.true)) _ c.random_start-low.ensures) ∙ c.loop.invariant.goes, x.1)
 
-small : (c : In_ok-c) → c.in_ok-c.c < c.args.g.columns
+small : (c : In_ok-c) → c.in_ok-c.c < c.args.circle.g.columns
 small c =
     on_deck _ _ _ _ _ _ c.loop.invariant.fine (rw c.random_start-low.ensures (start_small _ (omega arith))) (omega arith) _ _ _
     (sym c.find_available_column.ensures ∙ ap number c.in_ok-c.was)

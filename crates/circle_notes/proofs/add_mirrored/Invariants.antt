@@ -8,4 +8,4 @@ use Rattle.circle_notes.proofs.add_mirrored.Given as goal
 
 abbrev pub invariant-loop : goal.invariant-loop
 invariant-loop l =
-    Mirroring l.g (length l.initial.words) l.words l.rest l.p l.at (l.n - l.counter) (on (add_mirrored l.g l.n l.first empty) l.initial.rest)
+    Mirroring l.circle.g (length l.initial.words) l.words l.rest l.p l.at (l.n - l.counter) (on (add_mirrored l.circle.g l.n l.first empty) l.initial.rest)

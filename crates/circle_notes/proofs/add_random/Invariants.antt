@@ -8,4 +8,4 @@ use Rattle.circle_notes.proofs.add_random.Given as goal
 
 abbrev pub invariant-loop : goal.invariant-loop
 invariant-loop l =
-    Going l.g l.barred (length l.initial.words) l.words l.rest l.p l.at (l.n - l.counter) (on (add_random l.g l.barred l.n l.first empty) l.initial.rest)
+    Going l.circle.g l.barred (length l.initial.words) l.words l.rest l.p l.at (l.n - l.counter) (on (add_random l.circle.g l.barred l.n l.first empty) l.initial.rest)

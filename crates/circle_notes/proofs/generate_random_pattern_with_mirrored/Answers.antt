@@ -10,7 +10,7 @@ unfolding generate_random_pattern_with_mirrored
 returns-then-has_type c =
     let a = c.args in
     let k = c.generate_random_pattern.ensures in (
-      k.0 ∙ sym (rw (← c.has_type.ensures, c.if-has_type.true) (ap (λ (p : CircleChances). on (generate_random_pattern a.g p) a.d) (sym c.unmirrored-chances.ensures))),
+      k.0 ∙ sym (rw (← c.has_type.ensures, c.if-has_type.true) (ap (λ (p : CircleChances). on (generate_random_pattern a.circle.g p) a.d) (sym c.unmirrored-chances.ensures))),
       k.1,
     )
 

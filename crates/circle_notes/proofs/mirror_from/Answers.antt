@@ -14,7 +14,7 @@ use Rattle.circle_notes.proofs.mirror_from.Goals as goal
 use Rattle.circle_notes.proofs.mirror_from.Goals.{After-random_start-low}
 
 -- the first column of the search is in the left half
-low : (c : After-random_start-low) → c.random_start-low.result < c.args.g.columns / 2
+low : (c : After-random_start-low) → c.random_start-low.result < c.args.circle.g.columns / 2
 low c = rw c.random_start-low.ensures (start_small _ (omega arith))
 
 pub get_random_column-requires : goal.get_random_column-requires
@@ -27,7 +27,7 @@ returns-in_err-c c =
 
 pub add_mirrored-requires : goal.add_mirrored-requires
 add_mirrored-requires c =
-    let small : c.in_ok-c.c < c.args.g.columns / 2 = drawn_lt _ _ (low (goal.at.add_mirrored-requires c).After-random_start-low) _ _ _ (sym c.get_random_column.ensures ∙ ap number c.in_ok-c.was) in
+    let small : c.in_ok-c.c < c.args.circle.g.columns / 2 = drawn_lt _ _ (low (goal.at.add_mirrored-requires c).After-random_start-low) _ _ _ (sym c.get_random_column.ensures ∙ ap number c.in_ok-c.was) in
     omega (arith, small)
 
 pub returns-in_err-p : goal.returns-in_err-p
@@ -52,8 +52,7 @@ returns-in_err-q c =
 
 pub add_special-requires : goal.add_special-requires
 add_special-requires c =
-    let r = c.requires in
-    omega (arith, subst (AtMost _) c.in_ok-q.was c.add_centre.ensures.1, r.1, r.3, c.add_mirrored.auto.words, c.add_centre.auto.words)
+    omega (arith, subst (AtMost _) c.in_ok-q.was c.add_centre.ensures.1, c.add_mirrored.auto.words, c.add_centre.auto.words)
 
 pub returns : goal.returns
 unfolding mirror_from

@@ -4,7 +4,6 @@ use lib.Ieee.{round, of_bits}
 use Rattle.random.specs.Play.{value}
 use Rattle.random.specs.Answers.{number}
 use Rattle.random.specs.Laws.Try.{goes_on}
-use Rattle.floats.specs.Laws.Ranges.{clamped_is}
 use Rattle.mania.specs.PatternGenerator.{get_random_note_count}
 use Rattle.mania.specs.HitObject.{mirror_notes}
 use Rattle.pattern.specs.Laws.Bounds.{count_le}
@@ -19,11 +18,11 @@ pub returns-in_err-n : goal.returns-in_err-n
 unfolding mirror_notes round of_bits
 returns-in_err-n c =
     let x = leaves_placed _ (get_random_note_count _ _ _ _ _) _ _ _ _ _ _ _ _ c.get_random_note_count.ensures c.in_err-n.was c.from_residual-in_err-n.ensures.1 in
-    rw (← c.mirrored_chances-m.ensures, ← clamped_is, ← clamped_is, ← c.clamp-p2.ensures.value, ← c.clamp-p3.ensures.value) (x.0 ∙ sym (goes_on _ value _ _ _ _ _ c.draw.ensures c.in_ok-v.was), x.1)
+    rw (← c.mirrored_chances-m.ensures, ← c.clamp-p2.ensures, ← c.clamp-p3.ensures) (x.0 ∙ sym (goes_on _ value _ _ _ _ _ c.draw.ensures c.in_ok-v.was), x.1)
 
 pub mirror_from-requires : goal.mirror_from-requires
 mirror_from-requires c =
-    (c.requires.0, c.requires.1, count_le _ _ _ _ _ _ _ _ (sym c.get_random_note_count.ensures ∙ ap number c.in_ok-n.was), c.requires.2)
+    (c.requires.0, count_le _ _ _ _ _ _ _ _ (sym c.get_random_note_count.ensures ∙ ap number c.in_ok-n.was), c.requires.1)
 
 pub returns : goal.returns
 unfolding mirror_notes round of_bits
@@ -32,7 +31,7 @@ returns c =
       k.0
           ∙ sym
           (goes_on _ value _ _ _ _ _ c.draw.ensures c.in_ok-v.was
-          ∙ rw (← c.mirrored_chances-m.ensures, ← clamped_is, ← clamped_is, ← c.clamp-p2.ensures.value, ← c.clamp-p3.ensures.value)
+          ∙ rw (← c.mirrored_chances-m.ensures, ← c.clamp-p2.ensures, ← c.clamp-p3.ensures)
           (goes_on _ (get_random_note_count _ _ _ _ _) _ _ _ _ _ c.get_random_note_count.ensures c.in_ok-n.was
           ∙ rw (← c.next_double-val.ensures, ← c.at_centre-middle.ensures))),
       k.1,

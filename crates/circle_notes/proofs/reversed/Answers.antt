@@ -7,4 +7,4 @@ pub returns : goal.returns
 unfolding reversed
 returns c =
     let k = c.add_each.ensures in
-    (k.0 (image c.args.g.columns) (λ i e l p. search rules), k.1)
+    (k.0 (image c.args.circle.g.columns) (λ i e l p. search rules), k.1)

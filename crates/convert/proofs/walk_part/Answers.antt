@@ -1,44 +1,24 @@
 -- `convert::walk_part` meets its contract: the points and the objects of the two parts are the song's. Assumes nothing.
-use mathlib.Core.Path.{◌≡◌, sym, ap, ◌∙◌}
-use Prim.Native.Nat.{ℕ, ◌/◌, ◌≤◌, ◌<◌}
-use native.Mathlib.Nat.{le_of_lt}
+use mathlib.Core.Path.{sym, ap, ◌∙◌}
 use native.Mathlib.Omega.{arith}
 use lib.Dec.{lit≤}
-use lib.ListN.{length}
 use Rattle.record.specs.Refusal.{entries}
 use Rattle.record.specs.Object.{objects}
 use Rattle.convert.specs.Ends.{without_points}
 use Rattle.convert.proofs.Songs.{objects_are_in, given, played, given_none, played_none}
 use Rattle.convert.proofs.walk_part.Goals as goal
-use Rattle.convert.proofs.walk_part.Goals.{Else-count-eq0}
 
 pub walk_objects-requires : goal.walk_objects-requires
 unfolding objects entries
 walk_objects-requires c =
     let none = c.without_points-none.ensures ∙ ap without_points c.requires.1 in
-    (given_none c.args.bytes.now c.args.m c.requires.0 _ none, tt, omega arith, omega arith, omega (arith, c.requires.2), lit≤ tt, lit≤ tt)
+    (given_none c.args.bytes.now c.args.m c.requires.0 _ none, tt, omega arith, omega (arith, c.requires.2), lit≤ tt, lit≤ tt)
 
 pub returns-then-count-eq0 : goal.returns-then-count-eq0
 returns-then-count-eq0 c =
     let walked = c.walk_objects in
     let none = c.without_points-none.ensures ∙ ap without_points c.requires.1 in
     played_none c.args.bytes.now c.args.m c.requires.0 (sym c.if-count-eq0.true) _ none c.args.chart.now walked.new.chart c.args.d walked.result walked.ensures
-
-some : (n : ℕ) → (n ≡ 0 → ⊥) → 0 < n
-some n h = omega arith
-
--- the first timing point's byte and the first object's are there
-points-in : (c : Else-count-eq0) → c.args.m.places.timing / 8 ≤ length c.args.bytes.now
-points-in c = le_of_lt (c.requires.0.points_part (some _ c.if-count-eq0.false))
-
-objects_in : (c : Else-count-eq0) → c.args.m.places.objects / 8 ≤ length c.args.bytes.now
-objects_in c = le_of_lt (c.requires.0.objects_part (some _ c.if-count-eq0.false))
-
-pub slice_bounds-walk_objects-count-2 : goal.slice_bounds-walk_objects-count-2
-slice_bounds-walk_objects-count-2 c = omega (arith, points-in (goal.at.slice_bounds-walk_objects-count-2 c).Else-count-eq0)
-
-pub slice_bounds-walk_objects-count-3 : goal.slice_bounds-walk_objects-count-3
-slice_bounds-walk_objects-count-3 c = objects_in (goal.at.slice_bounds-walk_objects-count-3 c).Else-count-eq0
 
 pub walk_objects-requires-2 : goal.walk_objects-requires-2
 walk_objects-requires-2 c =
@@ -47,7 +27,6 @@ walk_objects-requires-2 c =
       given bytes c.args.m k _ c.requires.1,
       objects_are_in bytes c.args.m k,
       omega arith,
-      omega (arith, k.small.objects_le),
       omega (arith, c.requires.2),
       lit≤ tt,
       lit≤ tt,

@@ -1,39 +1,19 @@
--- `density::nodes` meets its contract. The loop's invariant: the nodes that are left, from the density so far, give the density of them all. It holds at
--- first since the last seven nodes are enough. Assumes nothing.
-use mathlib.Core.Path.{sym, ap, ◌∙◌}
-use Prim.Native.Nat.{ℕ, ◌+◌, ◌-◌}
-use native.Mathlib.Omega.{arith}
-use lib.Ieee.{Float}
-use Rattle.mania.specs.LimitedQueue as Queue
-use Rattle.mania.specs.LimitedQueue.{compute_density}
-use Rattle.mania.specs.Convert.{nodes}
+-- `density::nodes` meets its contract: the fold is over the last seven nodes, which are enough. Assumes nothing.
+use Rattle.std.specs.Prelude.{◌≡◌, refl, ◌-◌}
+use Rattle.std.proofs.Common.{rules, ap, ◌∙◌}
+use Rattle.std.proofs.lemmas.Fn.{fold_over}
+use Rattle.std.proofs.lemmas.Iterator.{YieldsList-from_range}
+use Rattle.std.proofs.iter.Yields.{nat_range_steps}
 use Rattle.density.specs.Queued.{queued}
-use Rattle.density.proofs.Queue.{node_more, nodes_done, nodes_last}
+use Rattle.density.proofs.Queue.{over, over_more, over_range, nodes_last}
 use Rattle.density.proofs.nodes.Goals as goal
-
-pub loop-n-init : goal.loop-n-init
-loop-n-init c =
-    let o = c.args.o in
-    let l = c.args.length in
-    let count = c.args.count in
-    let d = queued c.args.d in
-    (omega arith, ap (λ (n : ℕ). nodes o l (count - n) n d) c.saturating_sub-n.ensures ∙ nodes_last o l count d)
-
-pub loop-n-preserved : goal.loop-n-preserved
-loop-n-preserved c =
-    let o = c.args.o in
-    let l = c.args.length in
-    let count = c.args.count in
-    let at = c.loop-n in (
-      omega arith,
-      ap (λ (d : Queue.Density). nodes o l (count - (at.n + 1)) (at.n + 1) d)
-          (c.compute_density-r.ensures ∙ ap (λ (t : Float). compute_density t (queued at.r)) c.node_time.ensures)
-          ∙ node_more o l count at.n (queued at.r) c.loop-n-test.true
-          ∙ at.invariant.1,
-    )
 
 pub returns : goal.returns
 returns c =
-    let start = c.args in
-    let at = c.loop-n in
-    sym (nodes_done start.o start.length start.count at.n (queued at.r) c.loop-n-test.false) ∙ at.invariant.1
+    let a = c.args in
+    let from = a.count - 7 in
+    fold_over nat_range_steps (λ n. n) _ (λ ns d. queued d ≡ over a.o a.length ns (queued a.d)) _
+    (λ ns d n b f' j k. let more = over_more a.o a.length ns n (queued a.d) in search rules)
+    (record { start = c.saturating_sub.result; end = a.count }) _ _ _ (YieldsList-from_range from a.count (a.count - from) (ap (λ n. record { start = n; end = a.count }) c.saturating_sub.ensures) refl).runs refl c.fold.ensures.ran
+    ∙ over_range a.o a.length (a.count - from) from (queued a.d)
+    ∙ nodes_last a.o a.length a.count (queued a.d)

@@ -16,11 +16,11 @@ unfolding generate
 returns-in_err-c c =
     rw (← c.lasting-lasts.ensures) (leaves_made _ (note_column _ _ _ _) _ _ _ _ _ _ _ _ c.note_column.ensures c.in_err-c.was c.from_residual.ensures.1)
 
-pub returns-then-columns-c : goal.returns-then-columns-c
+pub returns-then-g-c : goal.returns-then-g-c
 unfolding generate
-returns-then-columns-c c =
+returns-then-g-c c =
     record {
-      says = sym (rw (← c.lasting-lasts.ensures) (goes_on _ (note_column _ _ _ _) _ _ _ _ _ c.note_column.ensures c.in_ok-c.was ∙ refused_bind _ _ _ _ _ (add_off _ _ _ _ _ c.if-columns-c.true)));
+      says = sym (rw (← c.lasting-lasts.ensures) (goes_on _ (note_column _ _ _ _) _ _ _ _ _ c.note_column.ensures c.in_ok-c.was ∙ refused_bind _ _ _ _ _ (add_off _ _ _ _ _ c.if-g-c.true)));
       few = omega arith;
     }
 
@@ -30,7 +30,7 @@ returns c =
     let a = c.args in
     record {
       says =
-          rw (one_note a.o a.duration a.words.now c.in_ok-c.c (omega arith) (omega arith))
-          (sym (rw (← c.lasting-lasts.ensures) (goes_on _ (note_column _ _ _ _) _ _ _ _ _ c.note_column.ensures c.in_ok-c.was ∙ found_bind _ _ _ _ _ (add_on _ _ _ _ _ c.if-columns-c.false))));
+          rw (one_note a.g.o a.g.duration a.words.now c.in_ok-c.c (omega arith) (omega arith))
+          (sym (rw (← c.lasting-lasts.ensures) (goes_on _ (note_column _ _ _ _) _ _ _ _ _ c.note_column.ensures c.in_ok-c.was ∙ found_bind _ _ _ _ _ (add_on _ _ _ _ _ c.if-g-c.false))));
       few = omega arith;
     }

@@ -4,10 +4,10 @@ use Rattle.random.specs.Play.{play}
 use Rattle.mania.specs.EndTimeObject.{note_column}
 use Rattle.end_time_object.proofs.note_column.Goals as goal
 
-pub returns-then-columns-finish : goal.returns-then-columns-finish
+pub returns-then-g-finish : goal.returns-then-g-finish
 unfolding note_column round of_bits play
-returns-then-columns-finish c = rw (← c.has_flag-finish.ensures, c.if-columns-finish.true)
+returns-then-g-finish c = rw (← c.has_flag-finish.ensures, c.if-g-finish.true)
 
 pub returns : goal.returns
 unfolding note_column round of_bits
-returns c = rw (← c.has_flag-finish.ensures, c.if-columns-finish.false) c.end_column.ensures
+returns c = rw (← c.has_flag-finish.ensures, c.if-g-finish.false) c.end_column.ensures

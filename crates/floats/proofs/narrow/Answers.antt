@@ -35,8 +35,8 @@ result c s e =
     ∙ ap (λ (g : Bool). round binary32 g u (2 ^ 1074)) (sym e)
     ∙ narrow_is x (subst T (sym c.well_formed.0.1) tt) (no_nan x c.if-x.false)
 
-pub returns-then-bits-ge-SIGN : goal.returns-then-bits-ge-SIGN
-returns-then-bits-ge-SIGN c = result (goal.at.returns-then-bits-ge-SIGN c).After-narrow_size-size true (le-leb _ _ c.if-bits-ge-SIGN.true)
+pub returns-then-bits-ge-SIGN_BIT : goal.returns-then-bits-ge-SIGN_BIT
+returns-then-bits-ge-SIGN_BIT c = result (goal.at.returns-then-bits-ge-SIGN_BIT c).After-narrow_size-size true (le-leb _ _ c.if-bits-ge-SIGN_BIT.true)
 
-pub returns-else-bits-ge-SIGN : goal.returns-else-bits-ge-SIGN
-returns-else-bits-ge-SIGN c = result (goal.at.returns-else-bits-ge-SIGN c).After-narrow_size-size false (lt-leb _ _ c.if-bits-ge-SIGN.false)
+pub returns-else-bits-ge-SIGN_BIT : goal.returns-else-bits-ge-SIGN_BIT
+returns-else-bits-ge-SIGN_BIT c = result (goal.at.returns-else-bits-ge-SIGN_BIT c).After-narrow_size-size false (lt-leb _ _ c.if-bits-ge-SIGN_BIT.false)

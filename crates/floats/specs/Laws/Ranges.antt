@@ -3,14 +3,13 @@
 use Rattle.std.specs.Prelude.{◌≡◌, ℕ, zero, suc, ◌*◌, ◌%◌, ◌<◌, ◌≤◌, Bool, true, false, cond, not, ◌&&◌, T, pos, ◌==◌, from_bits, nat_lt, Float}
 use Rattle.std.proofs.Math.Path.{refl, subst}
 use Rattle.std.proofs.Common.{sym, ap, ◌∙◌, mul-pos, zero-lt-suc, arith, eqb→eq, nltb→le}
-use Rattle.std.specs.Float.{nan, inf, fin, Format, float_clamp, float_is_finite}
+use Rattle.std.specs.Float.{nan, inf, fin, Format, float_is_finite}
 use Rattle.std.specs.Float.Ieee.{top, ones, hid, up, down, lt, eq, le, nan_bits}
 use Rattle.std.specs.Float.Ieee.Bits.{nan_bits_is, nan_bits_above, is_true}
 use borrow.Author.Tests.{lt-ltb, le-ltb}
 use Rattle.std.specs.Float.Ieee.Fits.{and_l, and_r, up_pos, down_pos}
 use Rattle.std.specs.Float.Ieee.Positive.{num, den, den_pos}
 use Rattle.std.specs.Float.Ieee.Scale.{finite}
-use Rattle.floats.specs.Least.{clamped}
 use Rattle.floats.specs.Range.{negative_zero, in_range, within, float}
 use Rattle.floats.specs.Laws.Patterns.{finite_no_nan}
 use Rattle.floats.specs.Laws.Values.{Sized, lt_value, le_not_lt}
@@ -100,12 +99,7 @@ module _ (f : Format) (b : ℕ) where
       let a = and_l (finite x && not (negative_zero x) && le lo x) (le x hi) t in
       rw (float_within lo hi h) (is_true (le lo x) (and_r (finite x && not (negative_zero x)) (le lo x) a), is_true (le x hi) (and_r (finite x && not (negative_zero x) && le lo x) (le x hi) t))
 
--- ---- std's words
-
--- `x.clamp(low, high)`
-pub clamped_is : (low high x : Float) → float_clamp x low high ≡ clamped low high x
-unfolding clamped
-clamped_is low high x = refl
+-- ---- std's word
 
 -- `x.is_finite()`
 pub finite_is : (x : Float) → float_is_finite x ≡ finite x

@@ -9,7 +9,7 @@ use Rattle.hit_object.proofs.stair_after.Goals as goal
 pub returns : goal.returns
 unfolding stair_after
 returns c =
-    let g = c.args.g in
+    let g = c.args.circle.g in
     subst (λ l. c.fold.result ≡ stair_after g g.stair (map (circle_at g.start) l)) c.iter.ensures.rest
     (fold_over fronts (λ y. y.now) _ (λ ys s. s ≡ stair_after g g.stair (map (circle_at g.start) ys)) _
     (λ ys s x t f' j k. let more = after_more g ys x.now g.stair in search rules)

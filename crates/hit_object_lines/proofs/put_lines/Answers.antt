@@ -15,41 +15,41 @@ use Rattle.hit_object_lines.proofs.put_lines.Goals as goal
 pub loop-i-init : goal.loop-i-init
 loop-i-init c =
     let a = c.args in
-    let none = lines_none a.columns (notes_in a.chart.now) in
+    let none = lines_none a.score.columns (notes_in a.score.notes.chart.now) in
     wrote_first _ (rw none (sym (splice_none a.s.now 0 (omega arith)))) (rw none)
 
-pub note_of-n-requires : goal.note_of-n-requires
-note_of-n-requires c = omega (arith, c.requires.notes.size)
+pub note-n-requires : goal.note-n-requires
+note-n-requires c = omega (arith, c.args.score.notes.counted)
 
 pub put_line-at-requires : goal.put_line-at-requires
 put_line-at-requires c =
     let l = c.loop-i in
-    let ns = notes_in c.args.chart.now in
-    let below : l.i < length ns = omega (arith, c.requires.notes.size) in
-    let note = c.note_of-n.ensures in (
+    let ns = notes_in c.args.score.notes.chart.now in
+    let below : l.i < length ns = omega (arith, c.args.score.notes.counted) in
+    let note = c.note-n.ensures in (
       record {
-        some_columns = c.requires.notes.some_columns;
-        stands = rw note (standing_at c.args.columns 0 ns c.requires.notes.ok l.i blank below);
-        whole = rw note (whole_at ns c.requires.room.0 l.i blank below);
+        some_columns = c.args.score.some_columns;
+        stands = rw note (standing_at c.args.score.columns 0 ns c.args.score.ok l.i blank below);
+        whole = rw note (whole_at ns c.requires.whole l.i blank below);
       },
-      rw note (omega (arith, c.loop-i.auto.s, l.invariant.next, c.requires.room.1, lines_split c.args.columns ns l.i, lines_next c.args.columns ns l.i below)),
+      rw note (omega (arith, c.loop-i.auto.s, l.invariant.next, c.requires.room, lines_split c.args.score.columns ns l.i, lines_next c.args.score.columns ns l.i below)),
     )
 
 pub loop-i-preserved : goal.loop-i-preserved
 loop-i-preserved c =
-    let note = c.note_of-n.ensures in
+    let note = c.note-n.ensures in
     let l = c.loop-i in
-    let ns = notes_in c.args.chart.now in
-    let below : l.i < length ns = omega (arith, c.requires.notes.size) in
-    let fits : l.at + length (line_text (line_of c.args.columns (get_or ns l.i blank))) ≤ length c.args.s.now =
-    omega (arith, l.invariant.next, c.requires.room.1, lines_split c.args.columns ns l.i, lines_next c.args.columns ns l.i below) in
-    let line = wrote_next (line_text (line_of c.args.columns (get_or ns l.i blank))) l.invariant (c.put_line-at.ensures.s_after ∙ rw note) (c.put_line-at.ensures.value ∙ rw note) (rw (c.put_line-at.ensures.value, note) fits) in
-    rw (lines_more c.args.columns ns l.i below) line
+    let ns = notes_in c.args.score.notes.chart.now in
+    let below : l.i < length ns = omega (arith, c.args.score.notes.counted) in
+    let fits : l.at + length (line_text (line_of c.args.score.columns (get_or ns l.i blank))) ≤ length c.args.s.now =
+    omega (arith, l.invariant.next, c.requires.room, lines_split c.args.score.columns ns l.i, lines_next c.args.score.columns ns l.i below) in
+    let line = wrote_next (line_text (line_of c.args.score.columns (get_or ns l.i blank))) l.invariant (c.put_line-at.ensures.s_after ∙ rw note) (c.put_line-at.ensures.value ∙ rw note) (rw (c.put_line-at.ensures.value, note) fits) in
+    rw (lines_more c.args.score.columns ns l.i below) line
 
 pub returns : goal.returns
 returns c =
     let l = c.loop-i in
-    let ns = notes_in c.args.chart.now in
-    let all : take l.i ns ≡ ns = take_all l.i ns (omega (arith, c.requires.notes.size)) in
+    let ns = notes_in c.args.score.notes.chart.now in
+    let all : take l.i ns ≡ ns = take_all l.i ns (omega (arith, c.args.score.notes.counted)) in
     let lines = rw all at l.invariant in
     lines.bytes

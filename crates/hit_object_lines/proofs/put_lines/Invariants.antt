@@ -5,4 +5,4 @@ use Rattle.hit_object_lines.specs.Lines.{chart_lines}
 use Rattle.hit_object_lines.proofs.put_lines.Given as goal
 
 abbrev pub invariant-loop-i : goal.invariant-loop-i
-invariant-loop-i l = Wrote l.initial.s 0 (chart_lines l.columns (take l.i (notes_in l.chart))) l.s l.at
+invariant-loop-i l = Wrote l.initial.s 0 (chart_lines l.score.columns (take l.i (notes_in l.score.notes.chart.now))) l.s l.at

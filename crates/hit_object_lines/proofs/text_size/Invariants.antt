@@ -9,6 +9,6 @@ abbrev pub invariant-loop-i : goal.invariant-loop-i
 invariant-loop-i l =
     record {
       most : l.size ≤ 52 * l.i;
-      whole : all_whole (notes_in l.chart) ≡ all_whole (drop l.i (notes_in l.chart));
-      bytes : length (chart_lines l.columns (notes_in l.chart)) ≡ l.size + length (chart_lines l.columns (drop l.i (notes_in l.chart)));
+      whole : all_whole (notes_in l.score.notes.chart.now) ≡ all_whole (drop l.i (notes_in l.score.notes.chart.now));
+      bytes : length (chart_lines l.score.columns (notes_in l.score.notes.chart.now)) ≡ l.size + length (chart_lines l.score.columns (drop l.i (notes_in l.score.notes.chart.now)));
     }

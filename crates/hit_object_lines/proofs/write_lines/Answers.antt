@@ -14,20 +14,20 @@ returns-in_err-header c =
     let e = c.in_err-header.ensures in
     rw (read_refused c.args.chart.now c.args.text.now _ e, p.1, p.2) (record { result_value = rw (refused_broken _ _ e) refl; text_after = refl })
 
-pub overflow_cast-header : goal.overflow_cast-header
-overflow_cast-header c =
+pub overflow_cast-score : goal.overflow_cast-score
+overflow_cast-score c =
     let n = c.in_ok-header.header in
     let is = read_notes_law c.args.chart.now c.args.text.now n.version n.columns n.notes n.draws c.in_ok-header.ensures in
     omega (arith, is.1.0)
 
-pub write_notes-requires : goal.write_notes-requires
-write_notes-requires c =
+pub invariant_of-score : goal.invariant_of-score
+invariant_of-score c =
     let n = c.in_ok-header.header in
     let is = read_notes_law c.args.chart.now c.args.text.now n.version n.columns n.notes n.draws c.in_ok-header.ensures in
-    is.0
+    record { some_columns = is.0.some_columns; ok = rw c.new.ensures.0 is.0.ok }
 
 pub returns : goal.returns
 returns c =
     let n = c.in_ok-header.header in
     let is = read_notes_law c.args.chart.now c.args.text.now n.version n.columns n.notes n.draws c.in_ok-header.ensures in
-    rw is.1.1 c.write_notes.ensures
+    rw (is.1.1, ← c.new.ensures.0) c.write_notes.ensures

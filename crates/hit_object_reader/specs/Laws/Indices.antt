@@ -15,6 +15,15 @@ use Rattle.hit_object_lines.specs.Reading.{is_digit, with_digit, digits_on, limi
 use Rattle.hit_object_reader.specs.Laws.Texts as Texts
 use Rattle.hit_object_reader.specs.Laws.Texts.{none_left, count_from}
 
+-- the index after what was read: above the first one, and not past the end
+pub record Past (size at next : ℕ) : Type 0 where
+  pub forward : at < next
+  pub within : next ≤ size
+
+-- what is read later is also past what came before
+pub past_later : (size at next k : ℕ) → at ≤ next → Past size next k → Past size at k
+past_later size at next k h p = record { forward = omega (arith, p.forward); within = p.within }
+
 module _ (s : List ℕ) (i : ℕ) where
   -- ---- digits
 

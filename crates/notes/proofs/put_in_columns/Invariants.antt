@@ -3,4 +3,4 @@ use Rattle.notes.proofs.Written.{Wrote}
 use Rattle.notes.proofs.put_in_columns.Given as goal
 
 abbrev pub invariant-loop-i : goal.invariant-loop-i
-invariant-loop-i l = Wrote (row_in l.index l.p) l.words l.count l.initial.s l.at l.s l.i
+invariant-loop-i l = Wrote (row_in l.p) l.words l.initial.s l.s l.i

@@ -1,5 +1,6 @@
 -- `notes::put_notes` meets its contract, kind by kind. Assumes nothing.
 use mathlib.Core.Path.{◌∙◌}
+use mathlib.Core.Logic.{inl, inr}
 use Rattle.mania.specs.EndTimeObject.{lasting, end_note}
 use Rattle.end_time_object.specs.Answers.{end_note_at}
 use Rattle.object.specs.Notes.{note_by, note_at}
@@ -19,9 +20,5 @@ returns-in-Slider c =
 pub returns-in-Spinner : goal.returns-in-Spinner
 unfolding note_at note_by end_note_at end_note lasting
 returns-in-Spinner c =
-    c.put_in_columns-in-Spinner.ensures ∙ rw (c.end_note_at.ensures, ends_in, c.in-Spinner.is)
-
-pub returns-in-Hold : goal.returns-in-Hold
-unfolding note_at note_by end_note_at end_note lasting
-returns-in-Hold c =
-    c.put_in_columns-in-Hold.ensures ∙ rw (c.end_note_at-in-Hold.ensures, ends_in, c.in-Hold.is)
+    let written = c.put_in_columns-in-Spinner.ensures in
+    elim c.in-Spinner.is [ inl e ↦ written ∙ rw (c.end_note_at-n.ensures, ends_in, e) | inr e ↦ written ∙ rw (c.end_note_at-n.ensures, ends_in, e) ]

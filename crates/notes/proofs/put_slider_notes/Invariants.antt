@@ -10,4 +10,4 @@ abbrev pub row : ℕ → ℕ → Patterns.Note
 row i w = pattern_of i (note_of_word w)
 
 abbrev pub invariant-loop-i : goal.invariant-loop-i
-invariant-loop-i l = Wrote (row l.index) l.words l.count l.initial.s l.at l.s l.i
+invariant-loop-i l = Wrote (row l.index) l.words l.initial.s l.s l.i

@@ -2,7 +2,7 @@
 use mathlib.Core.Path.{subst}
 use native.Mathlib.Omega.{arith}
 use Rattle.mania.specs.Range.{FewRepeats}
-use Rattle.object.proofs.Decks.{circle_ends, slider_ends, spinner_ends, hold_ends}
+use Rattle.object.proofs.Decks.{circle_ends, slider_ends, end_time_ends}
 use Rattle.object.proofs.generate.Goals as goal
 
 pub generate_slider-requires : goal.generate_slider-requires
@@ -22,9 +22,4 @@ returns-in-Slider c =
 pub returns-in-Spinner : goal.returns-in-Spinner
 returns-in-Spinner c =
     let k = c.in-Spinner in
-    spinner_ends _ _ _ _ _ _ _ k.duration c.requires.last c.requires.mask c.generate_owned.ensures k.is
-
-pub returns-in-Hold : goal.returns-in-Hold
-returns-in-Hold c =
-    let k = c.in-Hold in
-    hold_ends _ _ _ _ _ _ _ k.duration c.requires.last c.requires.mask c.generate_owned-in-Hold.ensures k.is
+    end_time_ends _ _ _ _ _ _ _ k.duration c.requires.last c.requires.mask c.generate_owned.ensures k.is

@@ -8,9 +8,17 @@ use Rattle.pattern.specs.Answers.{Generates}
 use Rattle.circle_notes.specs.Answers.{circle_at}
 use Rattle.object.proofs.generate_circle.Goals as goal
 
-pub generate_owned-requires : goal.generate_owned-requires
+pub invariant_of-circle : goal.invariant_of-circle
 unfolding HitObject.new
-generate_owned-requires c = rw c.new-g.ensures (omega arith, omega arith, omega arith, omega arith)
+invariant_of-circle c =
+    record {
+      some = rw c.new-g.ensures (omega arith);
+      deck = rw c.new-g.ensures (omega arith);
+    }
+
+pub invariant_of-ready : goal.invariant_of-ready
+unfolding HitObject.new
+invariant_of-ready c = record { last = rw c.new-g.ensures (omega arith) }
 
 pub returns : goal.returns
 unfolding HitObject.new

@@ -1,6 +1,5 @@
 -- `object::generate_slider` meets its contract. Assumes nothing.
 use mathlib.Core.Path.{subst}
-use native.Mathlib.Omega.{arith}
 use Rattle.model.specs.Limits.{most_notes}
 use Rattle.random.specs.Play.{on}
 use Rattle.mania.specs.declared.PathObjectPatternGenerator.{PathObjectPatternGenerator}
@@ -10,12 +9,10 @@ use Rattle.slider_notes.specs.Words.{note_of_word}
 use Rattle.object.proofs.Ready.{ready}
 use Rattle.object.proofs.generate_slider.Goals as goal
 
-pub generate_owned-requires : goal.generate_owned-requires
-generate_owned-requires c =
-    let a = c.args in (
-      rw c.new-g.ensures (ready a.f a.v a.columns a.o a.repeats a.distance a.node _ c.requires.0 c.requires.1 c.requires.2 c.requires.3 (omega (arith, c.requires.5))),
-      omega (arith, c.requires.4),
-    )
+pub invariant_of-generate_owned : goal.invariant_of-generate_owned
+invariant_of-generate_owned c =
+    let a = c.args in
+    record { ready = rw c.new-g.ensures (ready a.f a.v a.columns a.o a.repeats a.distance a.node c.requires.0 c.requires.1 c.requires.2 c.requires.3) }
 
 pub returns : goal.returns
 returns c =

@@ -31,7 +31,7 @@ few c = subst (λ (r : Result (Lent.Pattern × Draws) Refused). many r ≤ most_
 
 pub split-pattern-requires : goal.split-pattern-requires
 split-pattern-requires c =
-    let f = few (goal.at.split-pattern-requires c).In_ok-p in (omega (arith, f, c.generate_core.auto.words, c.requires.0.room), omega (arith, f, c.requires.1))
+    let f = few (goal.at.split-pattern-requires c).In_ok-p in (omega (arith, f, c.generate_core.auto.words, c.requires.0), omega (arith, f, c.requires.1))
 
 pub returns : goal.returns
 returns c =
@@ -39,8 +39,8 @@ returns c =
     let o = c.split-pattern.ensures in
     record {
       says =
-          ap (λ (m : Made). found m c.in_ok-p.next) (made_is c.args.g.stair _ c.split-pattern.result)
-          ∙ ap (λ (q : Pattern SliderNote). found (made c.args.g.stair q) c.in_ok-p.next) o.is
+          ap (λ (m : Made). found m c.in_ok-p.next) (made_is c.args.ready.g.stair _ c.split-pattern.result)
+          ∙ ap (λ (q : Pattern SliderNote). found (made c.args.ready.g.stair q) c.in_ok-p.next) o.is
           ∙ sym (in_time _ _ c.if-end-gt-LATEST_END.false _ _ (sym core.ensures.says ∙ ap (placed of_word core.new.words) c.in_ok-p.was));
       few = omega (arith, o.same, few (goal.at.returns c).In_ok-p);
     }

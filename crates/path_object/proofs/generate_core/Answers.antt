@@ -17,23 +17,21 @@ returns-then-columns-eq1 c =
     record {
       says =
           rw (w.is, empty_is of_word c.args.words.now)
-          (sym (rw (eq-eqb _ _ c.if-columns-eq1.true) (add_on c.args.g 0 c.args.g.start c.args.g.end _ c.args.d (omega (arith, c.requires.0.low)))));
+          (sym (rw (eq-eqb _ _ c.if-columns-eq1.true) (add_on c.args.ready.g 0 c.args.ready.g.start c.args.ready.g.end _ c.args.d (omega (arith, c.args.ready.ready.low)))));
       few = omega (arith, w.more);
     }
 
+pub invariant_of-slider : goal.invariant_of-slider
+invariant_of-slider c = record { fits = fits _ c.args.ready.ready c.requires.1 c.if-columns-eq1.false }
+
 pub generate_spans-requires : goal.generate_spans-requires
-generate_spans-requires c =
-    (fits _ _ c.requires.0 c.requires.1 c.if-columns-eq1.false, c.requires.0.share)
+generate_spans-requires c = (c.requires.0, c.args.ready.ready.share)
 
 pub returns-then-spans-gt1 : goal.returns-then-spans-gt1
 unfolding generate_core
 returns-then-spans-gt1 c =
     places _ _ _ _ _ _ c.generate_spans.ensures
     (rw (ne_eqb _ _ c.if-columns-eq1.false, lt-ltb _ _ c.if-spans-gt1.true)) (omega arith)
-
-pub generate_span-requires : goal.generate_span-requires
-generate_span-requires c =
-    fits _ _ c.requires.0 c.requires.1 c.if-columns-eq1.false
 
 pub returns : goal.returns
 unfolding generate_core

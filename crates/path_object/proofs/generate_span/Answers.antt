@@ -12,7 +12,7 @@ use Rattle.path_object.proofs.generate_span.Goals as goal
 pub generate_random_notes-requires : goal.generate_random_notes-requires
 generate_random_notes-requires c =
     let n = c.span_notes-n.ensures in
-    (c.requires, omega (arith, n, most (leb 80 c.args.g.length), c.requires.one))
+    (c.requires, omega (arith, n, most (leb 80 c.args.slider.g.length), c.args.slider.fits.one))
   where
     most : (b : Bool) → (if b then 2 else 1) ≤ 2
     most true = omega arith

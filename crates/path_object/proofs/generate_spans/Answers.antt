@@ -46,7 +46,7 @@ returns-then-tiled c =
 
 pub generate_hold_and_normal_notes-requires : goal.generate_hold_and_normal_notes-requires
 generate_hold_and_normal_notes-requires c =
-    let g = c.args.g in
+    let g = c.args.slider.g in
     (c.requires.0, few_spans g.length g.spans c.if-span-le160.false (omega (arith, c.saturating_sub-lasts.ensures, c.if-lasts-ge4000.false, c.requires.1)))
 
 pub returns : goal.returns

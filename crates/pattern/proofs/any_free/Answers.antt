@@ -1,13 +1,20 @@
--- `pattern::any_free` meets its contract. The invariant: what is asked of the columns from c on is what is asked of all. Assumes nothing.
-use mathlib.Core.Path.{sym, ◌∙◌}
-use Rattle.pattern.specs.Laws.Searches.{any_hit, any_miss, any_end}
+-- `pattern::any_free` meets its contract: `any` over the range is the definition's. Assumes nothing.
+use Rattle.std.specs.Prelude.{◌≡◌, refl, ℕ, zero, suc, ◌-◌, ◌||◌}
+use Rattle.std.specs.List.{range_with_len, list_any}
+use Rattle.std.proofs.Common.{rules, ap, ◌∙◌}
+use Rattle.std.proofs.Math.Numerals.{add-one}
+use Rattle.std.proofs.lemmas.Iterator.{YieldsList-from_range}
+use Rattle.std.proofs.lemmas.Iterator.Search.{any_from_yields_List}
+use Rattle.mania.specs.Pattern.{free, any_free}
 use Rattle.pattern.proofs.any_free.Goals as goal
 
-pub returns-then-is_free : goal.returns-then-is_free
-returns-then-is_free c = sym (any_hit _ _ _ c.loop-c-test.true (sym c.is_free.ensures ∙ c.if-is_free.true)) ∙ c.loop-c.invariant
-
-pub loop-c-preserved : goal.loop-c-preserved
-loop-c-preserved c = sym (any_miss _ _ _ c.loop-c-test.true (sym c.is_free.ensures ∙ c.if-is_free.false)) ∙ c.loop-c.invariant
+over : (mask c n : ℕ) → list_any (free mask) (range_with_len c n) ≡ any_free mask c n
+unfolding any_free
+over mask c zero = refl
+over mask c (suc n) = rw (add-one c) (ap (λ b. free mask c || b) (over mask (suc c) n))
 
 pub returns : goal.returns
-returns c = sym (any_end _ _ _ c.loop-c-test.false) ∙ c.loop-c.invariant
+returns c =
+    let a = c.args in
+    any_from_yields_List (free a.mask) _ _ _ c.any.ensures.ran (YieldsList-from_range a.lower a.upper (a.upper - a.lower) refl refl) (λ x b q k. search rules)
+    ∙ over a.mask a.lower (a.upper - a.lower)

@@ -11,10 +11,10 @@ use Rattle.pattern.proofs.step_to.Goals.{After-next_column-column}
 pub loop-init : goal.loop-init
 loop-init c =
     let a = c.args in
-    let e : a.columns - 0 ≡ a.columns = omega arith in
-    (omega arith, ap (λ (n : ℕ). on (step_to n a.columns a.taken a.initial) a.d) e)
+    let e : a.s.columns - 0 ≡ a.s.columns = omega arith in
+    (omega arith, ap (λ (n : ℕ). on (step_to n a.s.columns a.s.taken a.s.initial) a.d) e)
 
-small : (c : After-next_column-column) → c.next_column-column.result < c.args.columns
+small : (c : After-next_column-column) → c.next_column-column.result < c.args.s.columns
 small c = rw c.next_column-column.ensures (next_lt _ _ c.loop.invariant.0)
 
 pub is_free-requires : goal.is_free-requires
@@ -30,9 +30,9 @@ loop-preserved c =
     let a = c.args in
     let l = c.loop in
     let column = c.next_column-column.result in
-    let e : a.columns - (l.counter + 1) ≡ a.columns - l.counter - 1 = omega arith in (
+    let e : a.s.columns - (l.counter + 1) ≡ a.s.columns - l.counter - 1 = omega arith in (
       small (goal.at.loop-preserved c).After-next_column-column,
-      ap (λ (n : ℕ). on (step_to n a.columns a.taken column) a.d) e
+      ap (λ (n : ℕ). on (step_to n a.s.columns a.s.taken column) a.d) e
           ∙ sym (step_miss _ _ _ _ _ _ (omega (arith, c.loop-test.true)) c.next_column-column.ensures (sym c.is_free.ensures ∙ c.if-is_free.false)) ∙ l.invariant.1,
     )
 

@@ -6,4 +6,4 @@ use Rattle.points.proofs.points_up_to.Given as goal
 
 abbrev pub invariant-loop-number : goal.invariant-loop-number
 invariant-loop-number l =
-    (l.number ≤ l.count) × (l.width ≤ At.entry) × (l.number ≤ amount l.s l.width l.at l.count l.t) × Reached (amount l.s l.width l.at l.count) l.number l.from
+    (l.number ≤ l.list.count) × (l.width ≤ At.entry) × (l.number ≤ amount l.list.s.now l.width l.list.at l.list.count l.t) × Reached (amount l.list.s.now l.width l.list.at l.list.count) l.number l.from

@@ -14,5 +14,5 @@ pub returns : goal.returns
 unfolding play
 returns c =
     let d = c.args.d in
-    let s = c.lent_step-s.ensures in
+    let s = c.lent_step-value.ensures in
     rw (draw_some (λ p. spent_number) number (tt {0}) give d.tally.left d.tally.longest d.random c.if-left-eq0.false, s.0, s.1)

@@ -38,6 +38,15 @@ unfolding play
 none_left zero g s x e h = refl
 none_left (suc l) g s x e h = let z : ◌≡◌ {A = ℕ} 0 1 = cc in absurd (omega arith)
 
+spent : (l g : ℕ) (s : Random) (x : ℕ) (e : Draws) → play (λ p. spent_number) number value l g s ≡ refused x e → (x ≡ spent_number) × (e ≡ tallied l g s)
+unfolding play
+spent zero g s x e h = (cc, cc)
+spent (suc l) g s x e h = let z : ◌≡◌ {A = ℕ} 0 1 = cc in absurd (omega arith)
+
+-- a draw is refused by its number alone, and leaves the draws as they were
+pub refused_draw : (d : Draws) (x : ℕ) (e : Draws) → on value d ≡ refused x e → (x ≡ spent_number) × (e ≡ d)
+refused_draw d x e h = spent d.tally.left d.tally.longest d.random x e h
+
 module _ {A : Type 0} (r : Refusal) (test : ℕ → Bool) (k : ℕ → ℕ → ObjectRule A) (more made : ℕ) (d : Draws) where
   -- a search that may make a draw, and finds none left
   pub none_until : (x : ℕ) (e : Draws) → on value d ≡ refused x e → (more ≡ 0 → ⊥) → on_until r test k more made d ≡ refused spent_number (searched made d)

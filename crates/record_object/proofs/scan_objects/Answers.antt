@@ -23,8 +23,8 @@ returns-in_err-object_refusal c =
 pub loop-preserved : goal.loop-preserved
 unfolding start_at
 loop-preserved c =
-    let added : c.from-long.result ≡ is_long (bits c.args.s.now c.loop.here 2) = c.from-long.ensures ∙ (ap from_bool c.is_long.ensures ∙ long_value _ _ c.shape_at.ensures) in
-    let few = rw (← added) at (long_le (bits c.args.s.now c.loop.here 2)) in
+    let added : c.from-long.result ≡ is_long (bits c.args.list.s.now c.loop.here 2) = c.from-long.ensures ∙ (ap from_bool c.is_long.ensures ∙ long_value _ _ c.shape_at.ensures) in
+    let few = rw (← added) at (long_le (bits c.args.list.s.now c.loop.here 2)) in
     record {
       place = omega arith;
       few = omega arith;

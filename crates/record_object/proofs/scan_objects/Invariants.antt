@@ -5,7 +5,7 @@ use Rattle.record_object.proofs.scan_objects.Given as goal
 
 abbrev pub invariant-loop : goal.invariant-loop
 invariant-loop l = record {
-  place : l.here ≤ l.at + At.longest * l.counter;
+  place : l.here ≤ l.list.at + At.longest * l.counter;
   few : l.long ≤ l.counter;
-  left : Left l.s l.at l.count l.here l.last l.long (l.count - l.counter);
+  left : Left l.list.s.now l.list.at l.list.count l.here l.last l.long (l.list.count - l.counter);
 }

@@ -15,7 +15,7 @@ use Rattle.sheet.proofs.put_line.Goals as goal
 pub returns : goal.returns
 unfolding line_at left ascii
 returns c =
-    let t : List ℕ = text_at c.args.columns (notes_in c.args.chart.now) c.args.i in
+    let t : List ℕ = text_at c.args.sheet.columns (notes_in c.args.sheet.notes.chart.now) c.args.i in
     let gap : ℕ = line_width - length t in
     let same : line_size * c.args.i + line_width - c.put_text-end.result ≡ gap = omega (arith, c.put_text-end.ensures.value.0) in
     let line₁ = wrote_first t c.put_text-end.ensures.s_after c.put_text-end.ensures.value.0 in

@@ -13,13 +13,13 @@ use Rattle.sheet.proofs.put_lines.Goals as goal
 pub loop-i-init : goal.loop-i-init
 loop-i-init c =
     let a = c.args in
-    let none = lines_none a.columns (notes_in a.chart.now) in
+    let none = lines_none a.sheet.columns (notes_in a.sheet.notes.chart.now) in
     wrote_first _ (rw none (sym (splice_none a.s.now 0 (omega arith)))) (rw none)
 
 pub loop-i-preserved : goal.loop-i-preserved
 loop-i-preserved c =
     let l = c.loop-i in
-    let ns = notes_in c.args.chart.now in
-    let size = length_line c.args.columns ns c.requires.0 l.i (rw (← c.requires.1) (omega (arith, c.requires.2))) in
-    let more = wrote_next {next = line_size * (l.i + 1)} (line_at c.args.columns ns l.i) l.invariant c.put_line.ensures (omega (arith, size)) (omega (arith, c.requires.3)) in
-    rw (lines_more c.args.columns ns l.i) more
+    let ns = notes_in c.args.sheet.notes.chart.now in
+    let size = length_line c.args.sheet.columns ns c.args.sheet.fits l.i (rw (← c.args.sheet.notes.counted) (omega (arith, c.requires.0))) in
+    let more = wrote_next {next = line_size * (l.i + 1)} (line_at c.args.sheet.columns ns l.i) l.invariant c.put_line.ensures (omega (arith, size)) (omega (arith, c.requires.1)) in
+    rw (lines_more c.args.sheet.columns ns l.i) more

@@ -6,4 +6,4 @@ use Rattle.sheet.specs.Sheet.{lines}
 use Rattle.sheet.proofs.put_lines.Given as goal
 
 abbrev pub invariant-loop-i : goal.invariant-loop-i
-invariant-loop-i l = Wrote l.initial.s 0 (lines l.columns (notes_in l.chart) l.i) l.s (line_size * l.i)
+invariant-loop-i l = Wrote l.initial.s 0 (lines l.sheet.columns (notes_in l.sheet.notes.chart.now) l.i) l.s (line_size * l.i)

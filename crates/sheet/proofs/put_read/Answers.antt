@@ -11,8 +11,8 @@ use Rattle.sheet.proofs.put_read.Goals as goal
 use Rattle.sheet.proofs.put_read.Goals.{Start}
 
 -- the sheet's length
-size : (c : Start) → length (lines c.args.columns (notes_in c.args.chart.now) (page_lines * pages c.args.count)) ≡ line_size * (page_lines * pages c.args.count)
-size c = length_lines c.args.columns (notes_in c.args.chart.now) c.requires.0 (page_lines * pages c.args.count) (rw c.requires.1 (le_refl _))
+size : (c : Start) → length (lines c.args.sheet.columns (notes_in c.args.sheet.notes.chart.now) (page_lines * pages c.args.sheet.notes.count)) ≡ line_size * (page_lines * pages c.args.sheet.notes.count)
+size c = length_lines c.args.sheet.columns (notes_in c.args.sheet.notes.chart.now) c.args.sheet.fits (page_lines * pages c.args.sheet.notes.count) (rw c.args.sheet.notes.counted (le_refl _))
 
 pub returns-then-s-size : goal.returns-then-s-size
 returns-then-s-size c =
@@ -21,5 +21,5 @@ returns-then-s-size c =
 pub returns : goal.returns
 returns c =
     let fits = rw c.pages_of-end.ensures at c.if-s-size.false in
-    let text = lines c.args.columns (notes_in c.args.chart.now) (page_lines * pages c.args.count) in
+    let text = lines c.args.sheet.columns (notes_in c.args.sheet.notes.chart.now) (page_lines * pages c.args.sheet.notes.count) in
     rw (c.put_lines.ensures, c.pages_of-end.ensures) (rw (size (goal.at.returns c).Start) at (in_buffer text c.args.s.now (rw (size (goal.at.returns c).Start) fits)))

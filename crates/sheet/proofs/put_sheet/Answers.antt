@@ -13,12 +13,12 @@ knows : (c : In_ok-header) → Known c.args.chart.now c.in_ok-header.header.colu
 unfolding reading Bytes
 knows c = known _ _ _ _ _ (λ k. (c.type_inv.chart k).fits) c.in_ok-header.ensures
 
-pub put_read-requires : goal.put_read-requires
-put_read-requires c = let k = knows (goal.at.put_read-requires c).In_ok-header in (k.fits, k.counted)
+pub invariant_of-sheet : goal.invariant_of-sheet
+invariant_of-sheet c = record { fits = rw c.new.ensures.0 (knows (goal.at.invariant_of-sheet c).In_ok-header).fits }
 
 pub returns : goal.returns
 unfolding sheeted
-returns c = c.put_read.ensures ∙ (knows (goal.at.returns c).In_ok-header).put _
+returns c = c.put_read.ensures ∙ rw (c.new.ensures.0, c.new.ensures.1) ((knows (goal.at.returns c).In_ok-header).put _)
 
 pub returns-in_err-header : goal.returns-in_err-header
 unfolding sheeted putting reading

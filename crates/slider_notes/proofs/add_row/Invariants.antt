@@ -8,4 +8,4 @@ use Rattle.slider_notes.proofs.add_row.Given as goal
 
 abbrev pub invariant-loop : goal.invariant-loop
 invariant-loop l =
-    (l.time + (l.n - l.counter) * l.g.length < 2 ^ 26) × At l.g.columns l.initial.words l.words (l.initial.p.count + l.n) (l.n - l.counter) l.c l.p (λ (k : ℕ). on (add_row l.g k l.time l.c (pattern of_word l.words l.p)) l.rest) (l.n - l.counter) (on (add_row l.g l.n l.from l.first (pattern of_word l.initial.words l.initial.p)) l.initial.rest)
+    (l.time + (l.turns.n - l.counter) * l.turns.g.length < 2 ^ 26) × At l.turns.g.columns l.initial.words l.words (l.initial.p.count + l.turns.n) (l.turns.n - l.counter) l.c l.p (λ (k : ℕ). on (add_row l.turns.g k l.time l.c (pattern of_word l.words l.p)) l.rest) (l.turns.n - l.counter) (on (add_row l.turns.g l.turns.n l.turns.from l.turns.first (pattern of_word l.initial.words l.initial.p)) l.initial.rest)

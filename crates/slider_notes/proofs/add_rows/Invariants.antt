@@ -8,4 +8,4 @@ use Rattle.slider_notes.proofs.add_rows.Given as goal
 
 abbrev pub invariant-loop : goal.invariant-loop
 invariant-loop l =
-    (l.time + (l.n - l.counter) * l.g.length < 2 ^ 26) × At l.g.columns l.initial.words l.words (l.initial.p.count + 2 * l.n) (2 * (l.n - l.counter)) l.c l.p (λ (k : ℕ). on (add_rows l.g l.interval k l.time l.c (pattern of_word l.words l.p)) l.rest) (l.n - l.counter) (on (add_rows l.g l.interval l.n l.from l.first (pattern of_word l.initial.words l.initial.p)) l.initial.rest)
+    (l.time + (l.turns.n - l.counter) * l.turns.g.length < 2 ^ 26) × At l.turns.g.columns l.initial.words l.words (l.initial.p.count + 2 * l.turns.n) (2 * (l.turns.n - l.counter)) l.c l.p (λ (k : ℕ). on (add_rows l.turns.g l.interval k l.time l.c (pattern of_word l.words l.p)) l.rest) (l.turns.n - l.counter) (on (add_rows l.turns.g l.interval l.turns.n l.turns.from l.turns.first (pattern of_word l.initial.words l.initial.p)) l.initial.rest)

@@ -13,16 +13,16 @@ use Rattle.slider_notes.proofs.add_tiles.Goals as goal
 use Rattle.slider_notes.proofs.add_tiles.Goals.{In_ok-e}
 
 pub loop-init : goal.loop-init
-loop-init c = (rw (all c.args.n) c.requires.0.1, start _ _ _ _ _ _ _ _ (omega arith) c.requires.0.0.2)
+loop-init c = (rw (all c.args.turns.n) c.args.turns.times, start _ _ _ _ _ _ _ _ (omega arith) c.args.turns.on_deck.2)
 
 -- what the search gave, in the rule's words
 got : (c : In_ok-e)
     → let a = c.args in let l = c.loop in
-    on (seek a.g l.c l.p.mask) l.rest ≡ found c.in_ok-e.e c.in_ok-e.next
+    on (seek a.turns.g l.c l.p.mask) l.rest ≡ found c.in_ok-e.e c.in_ok-e.next
 got c = sym c.find_column.ensures ∙ ap number c.in_ok-e.was
 
-deck : (c : In_ok-e) → c.in_ok-e.e < c.args.g.columns
-deck c = find_on_deck _ c.requires.0.0.0 _ _ _ _ _ c.loop.invariant.1.deck (got c)
+deck : (c : In_ok-e) → c.in_ok-e.e < c.args.turns.g.columns
+deck c = find_on_deck _ c.args.turns.on_deck.0 _ _ _ _ _ c.loop.invariant.1.deck (got c)
 
 pub put_slider_note-p-requires : goal.put_slider_note-p-requires
 put_slider_note-p-requires c = omega (arith, deck (goal.at.put_slider_note-p-requires c).In_ok-e, c.requires)

@@ -8,10 +8,8 @@ use Rattle.mania.specs.PatternGenerator.{find_available_column}
 use Rattle.pattern.specs.Laws.Searches.{start_lt}
 use Rattle.slider_notes.proofs.find_column.Goals as goal
 
-pub find_available_column-requires : goal.find_available_column-requires
-find_available_column-requires c =
-    let p = c.requires in
-    (p.0, p.1, rw c.random_start-low.ensures (start_lt _ (omega arith)), p.1)
+pub invariant_of-search-clause-some : goal.invariant_of-search-clause-some
+invariant_of-search-clause-some c = rw c.random_start-low.ensures (start_lt _ (omega arith))
 
 pub returns : goal.returns
 returns c =

@@ -9,10 +9,8 @@ pub loop-w-init : goal.loop-w-init
 loop-w-init c = ending_start _ _ _ _ _
 
 pub put_word-p-requires : goal.put_word-p-requires
-put_word-p-requires c = (
-  c.column_of.ensures,
-  ending_room _ _ _ _ _ _ _ _ c.loop-w.invariant c.loop-w-test.true (le_refl _) (sym c.end_of.ensures ∙ c.if-end_of-end.true) (rw (take-length c.args.src.now) c.requires),
-)
+put_word-p-requires c =
+    ending_room _ _ _ _ _ _ _ _ c.loop-w.invariant c.loop-w-test.true (le_refl _) (sym c.end_of.ensures ∙ c.if-end_of-end.true) (rw (take-length c.args.src.now) c.requires)
 
 pub loop-w-preserved : goal.loop-w-preserved
 loop-w-preserved c =

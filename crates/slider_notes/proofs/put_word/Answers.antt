@@ -3,4 +3,4 @@ use Rattle.slider_notes.proofs.Order.{copied}
 use Rattle.slider_notes.proofs.put_word.Goals as goal
 
 pub returns : goal.returns
-returns c = copied _ _ _ _ c.requires.0 c.requires.1
+returns c = copied _ _ _ _ _ c.column_of-column.ensures c.requires c.with_column-mask.ensures

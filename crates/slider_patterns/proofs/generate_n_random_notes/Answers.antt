@@ -1,7 +1,7 @@
 -- `slider_patterns::generate_n_random_notes` meets its contract. Assumes nothing.
 use Rattle.std.specs.Prelude.{if◌then◌else◌}
 use Rattle.mania.specs.Steps.{double}
-use Rattle.std.proofs.Common.{◌≡◌, sym, ap, ◌∙◌, le_refl}
+use Rattle.std.proofs.Common.{◌≡◌, sym, ap, ◌∙◌, le_refl, arith}
 use lib.Ieee.{round, of_bits}
 use Rattle.random.specs.Answers.{number}
 use Rattle.mania.specs.PatternGenerator.{get_random_note_count}
@@ -18,7 +18,7 @@ unfolding round of_bits
 certain c = elim c.if-two.branch [ then-two w ↦ w.p2-is ∙ rw w.if-two.true | else-two w ↦ w.p2-is ∙ rw w.if-two.false ]
 
 pub generate_random_hold_notes-requires : goal.generate_random_hold_notes-requires
-generate_random_hold_notes-requires c = (c.requires, count_le _ _ _ _ _ _ _ _ (sym c.get_random_note_count.ensures ∙ ap number c.in_ok-n.was))
+generate_random_hold_notes-requires c = (omega arith, count_le _ _ _ _ _ _ _ _ (sym c.get_random_note_count.ensures ∙ ap number c.in_ok-n.was))
 
 pub returns-in_err-n : goal.returns-in_err-n
 unfolding get_random_note_count round of_bits

@@ -7,7 +7,7 @@ use Rattle.slider_patterns.proofs.head_column.Goals as goal
 
 pub find_column-requires : goal.find_column-requires
 find_column-requires c =
-    omega (arith, c.get_column-own.ensures, get_column_lt c.args.g.x c.args.g.columns c.requires.0, c.requires.0, c.requires.1)
+    omega (arith, c.get_column-own.ensures, get_column_lt c.args.slider.g.x c.args.slider.g.columns (omega (arith, c.args.slider.fits.low)), c.args.slider.fits.low, c.args.slider.fits.high)
 
 pub returns-then-is_moved : goal.returns-then-is_moved
 returns-then-is_moved c =

@@ -1,5 +1,4 @@
 -- `slider_times::caps` meets its contract. Assumes nothing.
-use Rattle.std.proofs.Common.{◌∙◌}
 use lib.Ieee.{round, of_bits}
 use Rattle.mania.specs.PathObject.{caps, percent}
 use Rattle.slider_times.proofs.Tables.{caps_at}
@@ -7,4 +6,4 @@ use Rattle.slider_times.proofs.caps.Goals as goal
 
 pub returns : goal.returns
 unfolding caps percent round of_bits
-returns c = c.new.ensures ∙ caps_at c.args.columns c.requires
+returns c = caps_at c.args.columns c.requires

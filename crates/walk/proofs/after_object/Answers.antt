@@ -6,4 +6,4 @@ use Rattle.walk.proofs.after_object.Goals as goal
 pub returns : goal.returns
 unfolding walk_of walk_after
 returns c =
-    rw (c.time_after-time.ensures, c.position_after-position.ensures, c.density_after-density.ensures, c.span_in-span.ensures)
+    rw (c.time_after.ensures, c.position_after.ensures, c.density_after.ensures, c.span_in-span.ensures)

@@ -7,16 +7,16 @@ use Rattle.chart.specs.Layout.{note_size_in}
 use Rattle.chart.specs.declared.Version.{Version}
 use Rattle.chart.proofs.rows.note_in.Goals as goal
 
-pub old_note_at-requires : goal.old_note_at-requires
-old_note_at-requires c =
+pub note_by-requires : goal.note_by-requires
+note_by-requires c =
     subst (λ (v : Version). c.args.at + note_size_in v ≤ length c.args.s.now) c.in-One.is c.requires
 
-pub note_at-requires : goal.note_at-requires
-note_at-requires c =
+pub note_by-requires-in-Two : goal.note_by-requires-in-Two
+note_by-requires-in-Two c =
     subst (λ (v : Version). c.args.at + note_size_in v ≤ length c.args.s.now) c.in-Two.is c.requires
 
 pub returns-in-One : goal.returns-in-One
-returns-in-One c = c.old_note_at.ensures ∙ rw c.in-One.is
+returns-in-One c = c.note_by.ensures ∙ rw c.in-One.is
 
 pub returns-in-Two : goal.returns-in-Two
-returns-in-Two c = c.note_at.ensures ∙ rw c.in-Two.is
+returns-in-Two c = c.note_by-in-Two.ensures ∙ rw c.in-Two.is

@@ -6,9 +6,8 @@ use Prim.Native.Nat.{ℕ, ◌-◌}
 use native.Mathlib.Omega.{arith}
 use lib.ListN.{length}
 use lib.Ieee.{Float}
-use Rattle.chart_lookup.specs.declared.Wanted.TheVariants.{Starting}
 use Rattle.chart.specs.Chart.{notes_in}
-use Rattle.chart_lookup.specs.Lookup.{wanted, places}
+use Rattle.chart_lookup.specs.Lookup.{Starting, wanted, places}
 use Rattle.chart_lookup.specs.Search.{run}
 use Rattle.chart_lookup.specs.Laws.Places.{length_run, none_found, too_many, some_found}
 use Rattle.chart_lookup.specs.Laws.Wanted.{none_between, all_between}
@@ -20,15 +19,15 @@ abbrev asked : List ℕ → Float → Float → List ℕ
 asked chart from to = places (wanted (Starting from to)) 0 (notes_in chart)
 
 -- none asked for, where the first time's place is not before the second's
-none : (c : Then-end-first) → length (asked c.args.chart.now c.args.from c.args.to) ≡ 0
+none : (c : Then-end-first) → length (asked c.args.notes.chart.now c.args.from.t c.args.to.t) ≡ 0
 none c =
-    none_between c.args.chart.now c.args.from c.args.to (rw c.well_formed.1.1.0.1 tt) (rw c.well_formed.1.1.1.0.1 tt) c.requires.1 c.requires.2 _ _ _ _
+    none_between c.args.notes.chart.now c.args.from.t c.args.to.t (rw c.well_formed.1.0.1.1.0.1 tt) (rw c.well_formed.1.1.0.1.1.0.1 tt) c.args.from.is_finite c.args.to.is_finite _ _ _ _
     c.first_at.ensures c.first_after.ensures c.starting_before-first.ensures c.starting_before-end.ensures c.if-end-first.true
 
 -- else they follow one another
-all : (c : Else-end-first) → asked c.args.chart.now c.args.from c.args.to ≡ run c.starting_before-first.result (c.starting_before-end.result - c.starting_before-first.result)
+all : (c : Else-end-first) → asked c.args.notes.chart.now c.args.from.t c.args.to.t ≡ run c.starting_before-first.result (c.starting_before-end.result - c.starting_before-first.result)
 all c =
-    all_between c.args.chart.now c.args.from c.args.to (rw c.well_formed.1.1.0.1 tt) (rw c.well_formed.1.1.1.0.1 tt) c.requires.1 c.requires.2 _ _ _ _
+    all_between c.args.notes.chart.now c.args.from.t c.args.to.t (rw c.well_formed.1.0.1.1.0.1 tt) (rw c.well_formed.1.1.0.1.1.0.1 tt) c.args.from.is_finite c.args.to.is_finite _ _ _ _
     c.first_at.ensures c.first_after.ensures c.starting_before-first.ensures c.starting_before-end.ensures c.if-end-first.false
 
 pub returns-then-end-first : goal.returns-then-end-first

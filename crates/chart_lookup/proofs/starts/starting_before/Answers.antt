@@ -8,20 +8,20 @@ use Rattle.chart_lookup.specs.Laws.Notes.{rise}
 use Rattle.chart_lookup.proofs.starts.starting_before.Goals as goal
 
 pub loop-low-init : goal.loop-low-init
-loop-low-init c = (search rules, omega (arith, c.requires), λ j h. absurd (omega arith), λ j h k. absurd (omega (arith, c.requires)))
+loop-low-init c = (search rules, omega (arith, c.args.notes.counted), λ j h. absurd (omega arith), λ j h k. absurd (omega (arith, c.args.notes.counted)))
 
-pub note_of-requires : goal.note_of-requires
-note_of-requires c = omega (arith, c.loop-low.invariant.0, c.loop-low.invariant.1, c.loop-low-test.true)
+pub note-requires : goal.note-requires
+note-requires c = omega (arith, c.args.notes.counted, c.loop-low.invariant.0, c.loop-low.invariant.1, c.loop-low-test.true)
 
-pub loop-low-preserved-then-note_of-pattern : goal.loop-low-preserved-then-note_of-pattern
-loop-low-preserved-then-note_of-pattern c = let test = c.loop-low-test.true in
-    let here = rw c.note_of.ensures at c.if-note_of-pattern.true in
-    (search rules, c.loop-low.invariant.1, λ j h. lt_of_le_of_lt (rise c.args.chart.now j _ (omega arith) (omega (arith, c.loop-low.invariant.1))) here, c.loop-low.invariant.3)
+pub loop-low-preserved-then-note-pattern : goal.loop-low-preserved-then-note-pattern
+loop-low-preserved-then-note-pattern c = let test = c.loop-low-test.true in
+    let here = rw c.note.ensures at c.if-note-pattern.true in
+    (search rules, c.loop-low.invariant.1, λ j h. lt_of_le_of_lt (rise c.args.notes.chart.now j _ (omega arith) (omega (arith, c.loop-low.invariant.1))) here, c.loop-low.invariant.3)
 
 pub loop-low-preserved : goal.loop-low-preserved
 loop-low-preserved c = let test = c.loop-low-test.true in
-    let here = rw c.note_of.ensures at c.if-note_of-pattern.false in
-    (search rules, omega (arith, c.loop-low.invariant.1), c.loop-low.invariant.2, λ j h k. le_trans here (rise c.args.chart.now _ j h k))
+    let here = rw c.note.ensures at c.if-note-pattern.false in
+    (search rules, omega (arith, c.loop-low.invariant.1), c.loop-low.invariant.2, λ j h k. le_trans here (rise c.args.notes.chart.now _ j h k))
 
 pub returns : goal.returns
 returns c = let l = c.loop-low.invariant in

@@ -10,4 +10,4 @@ first t (Some b) h = at_first _ b h
 first t None h = before_first _ h
 
 pub returns : goal.returns
-returns c = rw c.unwrap_or.ensures (first c.args.t c.moment_of.result c.moment_of.ensures)
+returns c = rw c.unwrap_or.ensures (first c.args.at.t c.moment_of.result c.moment_of.ensures)

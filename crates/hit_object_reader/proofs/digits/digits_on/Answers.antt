@@ -3,22 +3,16 @@ use Rattle.std.proofs.Common.{sym, ◌∙◌, arith}
 use Rattle.std.proofs.lemmas.List.{nil_from_length}
 use Rattle.hit_object_reader.specs.Laws.Parts.{digit_same, digits_end, digits_next, digits_stop}
 use Rattle.hit_object_reader.proofs.digits.digits_on.Goals as goal
-
-pub returns-then-not-is_ascii_digit-clause-value : goal.returns-then-not-is_ascii_digit-clause-value
-returns-then-not-is_ascii_digit-clause-value c =
-    let l = c.loop-c in
-    let g = c.in-Some in
-    let bad = sym (digit_same g.c.now) ∙ sym c.is_ascii_digit.ensures.value ∙ c.if-not-is_ascii_digit.true in
-    rw g.ensures.cases.0 (digits_stop l.value g.c.now g.tail.now bad) ∙ sym l.invariant.same
+use Rattle.hit_object_reader.proofs.digits.digits_on.Goals.{in-None-1, in-Some+else-is_ascii_digit}
 
 pub with_digit-value-requires : goal.with_digit-value-requires
-with_digit-value-requires c = (c.loop-c.invariant.few, sym (digit_same c.in-Some.c.now) ∙ sym c.is_ascii_digit.ensures.value ∙ c.if-not-is_ascii_digit.false)
+with_digit-value-requires c = (c.loop-c.invariant.few, sym (digit_same c.in-Some.c.now) ∙ sym c.is_ascii_digit.ensures.value ∙ c.if-is_ascii_digit.true)
 
 pub loop-c-preserved : goal.loop-c-preserved
 loop-c-preserved c =
     let l = c.loop-c in
     let g = c.in-Some in
-    let good = sym (digit_same g.c.now) ∙ sym c.is_ascii_digit.ensures.value ∙ c.if-not-is_ascii_digit.false in
+    let good = sym (digit_same g.c.now) ∙ sym c.is_ascii_digit.ensures.value ∙ c.if-is_ascii_digit.true in
     record {
       few = c.with_digit-value.ensures.1;
       left = omega (arith, g.ensures.cases.1, l.invariant.left);
@@ -28,5 +22,10 @@ loop-c-preserved c =
 pub returns-clause-value : goal.returns-clause-value
 returns-clause-value c =
     let l = c.loop-c in
-    let none = nil_from_length l.rest.now c.in_default.ensures.cases in
-    rw (l.invariant.same, none) (digits_end l.value)
+    elim c.match-split_first.branch [
+      | in-None-1 w ↦ rw (l.invariant.same, nil_from_length l.rest.now w.in-None-1.ensures.0) (digits_end l.value)
+      | in-Some+else-is_ascii_digit w ↦
+          let g = w.in-Some in
+          let bad = sym (digit_same g.c.now) ∙ sym w.is_ascii_digit.ensures.value ∙ w.if-is_ascii_digit.false in
+          rw g.ensures.cases.0 (digits_stop l.value g.c.now g.tail.now bad) ∙ sym l.invariant.same
+    ]

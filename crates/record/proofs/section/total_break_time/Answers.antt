@@ -30,5 +30,5 @@ loop-preserved c =
 pub returns : goal.returns
 unfolding break_time breaks entries
 returns c =
-    let none : c.args.count - c.loop.counter ≡ 0 = omega arith in
+    let none : c.args.list.count - c.loop.counter ≡ 0 = omega arith in
     rw (c.loop.invariant.rest, none)

@@ -8,6 +8,6 @@ use Rattle.record.proofs.section.total_break_time.Given as goal
 
 abbrev pub invariant-loop : goal.invariant-loop
 invariant-loop l = record {
-  place : l.here ≡ l.at + At.entry * l.counter;
-  rest : break_time (round binary64 false 0 1) (breaks l.s l.at l.count) ≡ break_time l.sum (breaks l.s l.here (l.count - l.counter));
+  place : l.here ≡ l.list.at + At.entry * l.counter;
+  rest : break_time (round binary64 false 0 1) (breaks l.list.s.now l.list.at l.list.count) ≡ break_time l.sum (breaks l.list.s.now l.here (l.list.count - l.counter));
 }

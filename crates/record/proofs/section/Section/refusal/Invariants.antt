@@ -6,6 +6,6 @@ use Rattle.record.proofs.section.Section.refusal.Given as goal
 
 abbrev pub invariant-loop : goal.invariant-loop
 invariant-loop l = record {
-  place : l.here ≤ l.at + At.entry * l.counter;
-  rest : section_refusal l.self l.s l.at l.count ≡ entries_refusal (entry_refusal l.self l.s) (entry_end l.self) (f64_at l.s) l.here l.before (l.count - l.counter);
+  place : l.here ≤ l.list.at + At.entry * l.counter;
+  rest : section_refusal l.self l.list.s.now l.list.at l.list.count ≡ entries_refusal (entry_refusal l.self l.list.s.now) (entry_end l.self) (f64_at l.list.s.now) l.here l.before (l.list.count - l.counter);
 }
