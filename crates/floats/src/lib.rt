@@ -206,7 +206,7 @@ pub fn max(x: f64, y: f64) -> f64
     if x < y { y } else { x }
 }
 
-// `x.clamp(low, high)`, which in std asks that the bounds are in order.
+// `x.clamp(low, high)`. std's requires bounds in order; this one requires nothing.
 #[tactic(auto, unfolding(crate::specs::Least::clamped))]
 pub fn clamp<F: Float>(low: F, high: F, x: F) -> F
     ensures { F.value result ≡ clamped (F.value low) (F.value high) (F.value x) }

@@ -1,4 +1,4 @@
--- What a generator gives, and what of it where the state is lent. Assumes nothing.
+-- A generator's result by value, and its result when the state is lent as `&mut Random`. Assumes nothing.
 use Rattle.std.specs.Prelude.{Result, Ok, Err}
 use Rattle.random.specs.declared.Random.{Random}
 use Rattle.random.specs.declared.Tally.{Tally}

@@ -1,5 +1,5 @@
-// The generators where the state is lent, each over its function by value. All are lent the same: the state, the words that get the notes, and the
-// working space of sliders. They are slices, and each generator asks the room that its notes take: an array would ask a slider's 602 words of a circle too.
+// `&mut Random` wrappers over the three by-value generators, written once over the trait `Generator`. `words` gets the notes; `spare` is working space, used
+// by sliders alone. Both are slices: each generator requires the room for its own notes, and an array type would make a circle's caller lend 602 words.
 #![tactic(auto)]
 
 ghost use Rattle.std.specs.Prelude.{◌≡◌, ℕ, List, length};
@@ -44,15 +44,14 @@ pub trait Generator {
         ensures { makes self d words.new result };
 }
 
-// What a generator is asked where the state is lent: the tally of the draws, and what its notes are made from.
+// The arguments of `generate` beside the state: the tally of the draws, and what the notes are made from.
 #[derive(Clone, Copy)]
 pub struct Ask<G> {
     pub tally: Tally,
     pub g: G,
 }
 
-// The state is taken out of what a generator gives. No `From`, here and for `outcome`: each is called once, and its contract would stand apart in a ghost
-// member.
+// Splits an outcome into the state and the rest. No `From`, here and for `outcome`: each is called once, and a `From` states its contract in a ghost member.
 pub fn turn_of(e: Outcome<Made>) -> Turn
     ensures { whole result.random result.end ≡ e }
 {
@@ -116,7 +115,7 @@ fn lend<G: Generator>(mut random: Random, ask: Ask<G>, words: &mut [u64], spare:
     Turn { random, end }
 }
 
-// For whoever owns the state: it is lent.
+// The same by value: lends the state of `d` to `generate`.
 pub fn generate_owned<G: Generator>(
     d: Draws,
     g: G,

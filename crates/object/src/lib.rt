@@ -1,7 +1,6 @@
-// The notes of one object, by its kind, for the walk and for the single-object entry. The facts, the previous values, the columns and the object are four
-// parameters, here and where these functions are used, as the definitions take them; so the
-// bounds of the deck stand in the two contracts below. Both buffers are lent by whoever calls, since there is no heap. They are two parameters: circles and
-// spinners use one, and a struct of both would be taken apart at once.
+// The notes of one object, by its kind, for the walk and for the single-object entry. Facts, previous values, columns and object are four parameters, as in
+// the definitions, so the deck's bounds stand in the two contracts below. `words` and `spare` are the caller's memory, since there is no heap; only sliders
+// use `spare`.
 #![tactic(auto)]
 
 ghost use Rattle.std.specs.Prelude.{◌≡◌, ◌^◌, ◌≤◌, ◌<◌, length};

@@ -82,9 +82,8 @@ fn newly_passed(section: Section, list: Entries, p: Passed, t: f64) -> Option<Pa
     Some(points_up_to(section, list, p, t))
 }
 
-// The beat length in force at the time t, among a list's timing points: before the first point it is the first's. Like the two below, it keeps the value c
-// where that lasts. What the three share is `newly_passed`. One function over a
-// closure that reads the value would be no plainer: its contract would say of the closure what theirs say of the value.
+// The beat length in force at the time t: before the first timing point it is the first's. Like the two below, it returns `c` while that value lasts. The
+// three share `newly_passed`; a closure that reads the value would need a contract as long as theirs.
 pub fn timing_point_at(list: Entries, c: Lasting<f64>, t: f64) -> Lasting<f64>
     requires { Rising TimingPoints list.s.now list.at list.count × BeatLasts list.s.now list.at list.count c }
     ensures { (result.value ≡ beat_at (timing_points list.entry.s.now list.entry.at list.entry.count) t)

@@ -82,7 +82,7 @@ pub fn next(random: &mut Random) -> u32
     low_bits(s)
 }
 
-// Lends a state for one step. A function of its own: it owns the state that `next` alters where it is lent.
+// A step by value: calls `next` on its own copy of the state.
 fn lent_step(mut random: Random) -> (Random, u32)
     ensures { (result.0 ≡ next random) × (result.1 ≡ low (next random)) }
 {

@@ -10,7 +10,6 @@ use Rattle.random.specs.declared.Draws.{Draws}
 use Rattle.mania.specs.declared.PathObjectPatternGenerator.{PathObjectPatternGenerator}
 use Rattle.mania.specs.Pattern.{Pattern, put}
 use Rattle.mania.specs.PathObject.{add_slider_note}
-use Rattle.pattern.specs.Answers.{column_of}
 use Rattle.pattern.specs.Laws.Adds as Adds
 use Rattle.slider_notes.specs.Words.{slider_note, of_word}
 
@@ -25,10 +24,6 @@ word_back c s e hc hs he =
     let r : w / 2 ^ 30 ≡ e = omega arith in
     let x : w / 2 ^ 30 % 2 ^ 26 ≡ e = rw r (omega arith) in
     rw (a, b, x)
-
--- and its column
-pub word_column : (c s e w : ℕ) → c < 16 → s < 2 ^ 26 → e < 2 ^ 26 → w ≡ e * 2 ^ 30 + s * 2 ^ 4 + c → c ≡ column_of w
-word_column c s e w hc hs he is = rw is (omega arith)
 
 -- ---- the steps that the loops share
 

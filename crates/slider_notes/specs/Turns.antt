@@ -1,11 +1,7 @@
 -- What the loops ask. Assumes nothing.
-use Rattle.std.specs.Prelude.{ℕ, ◌+◌, ◌*◌, ◌^◌, ◌≤◌, ◌<◌}
+use Rattle.std.specs.Prelude.{ℕ, ◌≤◌, ◌<◌}
 use Rattle.mania.specs.declared.PathObjectPatternGenerator.{PathObjectPatternGenerator}
 
 -- a column on a deck of at most 9
 abbrev pub OnDeck : PathObjectPatternGenerator → ℕ → Type 0
 OnDeck g c = (1 ≤ g.columns) × (g.columns ≤ 9) × (c < g.columns)
-
--- n turns, a span apart, at times below 2 ^ 26, the first of them at a column on the deck
-abbrev pub Turns : PathObjectPatternGenerator → (n from first : ℕ) → Type 0
-Turns g n from first = OnDeck g first × (from + n * g.length < 2 ^ 26)

@@ -20,9 +20,8 @@ ghost use Rattle.sumopine.specs.Numbers.{number_of, length_of, object_of, longes
 
 use rules::Refusal;
 
-// An answer as two numbers: 0 and how many bytes were written, or the refusal's number and 0. Two clauses, since the sheet and the lines have an outcome
-// each in their definitions. The other answers have arms of their own: one function for
-// them all would take a conversion and its contract, and be longer.
+// An answer as two numbers: 0 and the bytes written, or the refusal's number and 0. Two clauses, since the sheet and the lines define an outcome each. Other
+// answers are converted in place: one function for all of them would take a conversion and its contract.
 fn measured(answer: Result<usize, Refusal>, length: &mut u64) -> u32
     ensures lines { (result ≡ outcome_number (Told.told answer)) × (length.new ≡ outcome_length (Told.told answer)) }
     ensures sheet { (result ≡ sheet_number (Sheet.told answer)) × (length.new ≡ sheet_length (Sheet.told answer)) }

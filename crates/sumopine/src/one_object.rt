@@ -4,8 +4,8 @@ ghost use Rattle.object_numbers.specs.Single.{distance_of, node_of, kind_of, obj
 
 use random::Random;
 
-// Converts one object. A whole number may be anything: the contract is on the host's own numbers, also where a field cannot hold one. The state is lent
-// and comes back in the same four words; the notes are written from the buffer's start. Longer than 40 lines: C hands over 35 numbers one by one.
+// Converts one object. The contract speaks of the numbers as the host passes them, also where one does not fit its field. The generator state is read from
+// four words and written back to them; the notes are written from the buffer's start. Longer than 40 lines: C passes 35 numbers one by one.
 #[unsafe(no_mangle)]
 pub extern "C" fn sumopine_object(
     difficulty: f64,

@@ -210,7 +210,7 @@ fn meet(g: Song, c: InForce, before: Density, o: Object) -> Met
     Met { density, facts }
 }
 
-// What the walk keeps after an object that met m, and of which `made` came.
+// The walk's state after an object: `m` is what it met, `made` what its generator made.
 fn after_object(o: Object, m: Met, made: Made, w: Walk) -> Walk
     requires { w.notes + made.pattern.count < 2 ^ 32 }
     ensures { walk_of result ≡ walk_after m.facts o (queued m.density) made.pattern.mask made.pattern.last made.stair made.pattern.count (walk_of w) }
@@ -260,7 +260,7 @@ fn keep(
     Ok((after_object(o, m, made, w), d))
 }
 
-// An object is converted, and its notes are written. Both buffers are lent, as object has it.
+// Converts an object and writes its notes. `words` and `spare` are the caller's memory, as in `object`.
 fn convert_object(
     chart: &mut [u8],
     words: &mut [u64],
