@@ -7,15 +7,16 @@ use crate::numbers::word;
 // Whether a job ends as recorded, in every number and in every byte of the buffer.
 pub fn agrees(entry: Entry, chart: &mut [u8]) -> bool {
     let numbers = entry.numbers;
+    let number = word(numbers, 8);
     match convert::convert(entry.input, chart, word(numbers, 4)) {
         Ok(made) => {
-            entry.number() == 0
+            number == 0
                 && made.length == entry.due.len()
                 && made.longest == word(numbers, 20)
                 && holds(chart, entry.due)
         }
         Err(refused) => {
-            u32::from(refused.refusal) == entry.number()
+            u32::from(refused.refusal) == number
                 && refused.object == word(numbers, 12)
                 && refused.draws == word(numbers, 16)
                 && is_zero(chart)

@@ -34,7 +34,7 @@ impl Counts {
 fn replayed<F: Fn(Entry, &mut [u8]) -> bool>(entry: Entry, agrees: &F, buffer: &mut [u8]) -> bool
     requires { F.IsAlwaysCallable agrees.now }
 {
-    let size = entry.buffer();
+    let size = entry.buffer;
     if size > buffer.len() {
         return false;
     }
@@ -56,7 +56,7 @@ fn replay<F: Fn(Entry, &mut [u8]) -> bool>(list: &[u8], agrees: &F, buffer: &mut
             return counts;
         };
         let same = replayed(first, agrees, buffer);
-        counts.count(first.number(), same);
+        counts.count(first.number, same);
         list = rest;
     }
     counts
