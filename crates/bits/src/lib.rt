@@ -36,15 +36,18 @@ fn bit_at(s: &[u8], at: usize) -> u8
     (byte_at(s, at / 8) >> (7 - at % 8)) % 2
 }
 
-// A field near the end of the bytes, bit by bit. Not inlined, since it is seldom called and would make every reader of a field longer.
+// A field near the end of the bytes, by what it has of each byte. Not inlined, since it is seldom called and would make every reader of a field longer.
 #[inline(never)]
-fn read_by_bits(s: &[u8], at: usize, width: usize) -> u64
+fn read_by_bytes(s: &[u8], at: usize, width: usize) -> u64
     requires { (width ≤ 64) × (at ≤ 4294967296) }
     ensures { result ≡ bits s.now at width }
 {
+    let end = at + width;
     let mut v: u64 = 0;
-    for done in 0..width {
-        v = v * 2 + u64::from(bit_at(s, at + done));
+    for i in at / 8..(end + 7) / 8 {
+        let from = (8 * i).max(at);
+        let k = (8 * i + 8).min(end) - from;
+        v = joined(v, byte_at(s, i), 8 * i + 8 - from, k);
     }
     v
 }
@@ -98,7 +101,7 @@ pub fn read_bits(s: &[u8], at: usize, width: usize) -> u64
         return 0;
     }
     if s.len() < i + 9 {
-        return read_by_bits(s, at, width);
+        return read_by_bytes(s, at, width);
     }
     word(s, i, at % 8) / power(64 - width)
 }
