@@ -7,6 +7,7 @@ use crate::numbers::word;
 // Whether a job ends as recorded, in every number and in every byte of the buffer.
 pub fn agrees(entry: Entry, chart: &mut [u8]) -> bool {
     let numbers = entry.numbers;
+    // Of the numbers alone, as the others here: `entry.number` may be of the bytes after them.
     let number = word(numbers, 8);
     match convert::convert(entry.input, chart, word(numbers, 4)) {
         Ok(made) => {

@@ -1,8 +1,11 @@
 // The bytes of a lent buffer. None is zero, so that a byte set to zero shows.
 
-// Of an index below 65,536, as all are: `main` has no longer buffer. So told, the compiler makes vectors of the bytes in `fill`.
+// The longest buffer that is lent.
+pub const LONGEST: usize = 65536;
+
+// The first remainder changes no index of a buffer. With it the compiler knows that 16 bits hold one, and vectorises `fill`.
 fn lent(i: usize) -> u8 {
-    (i % 65536 % 251 + 1) as u8
+    (i % LONGEST % 251 + 1) as u8
 }
 
 pub fn fill(buffer: &mut [u8]) {

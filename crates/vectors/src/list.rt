@@ -5,8 +5,8 @@ ghost use Rattle.std.specs.Prelude.{◌≡◌, ◌+◌, length, IfSome};
 
 use crate::numbers::word;
 
-// An entry of a list. The buffer's length and the answer's number are the list's words where the numbers begin: of an entry with fewer numbers they
-// are what follows these.
+// An entry of a list. `buffer` and `number`, the buffer's length and the answer's number, are read from the list: where an entry has fewer numbers, from
+// the bytes after them.
 #[derive(Clone, Copy)]
 pub struct Entry<'a> {
     pub input: &'a [u8],

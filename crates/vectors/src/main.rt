@@ -10,6 +10,7 @@ mod numbers;
 mod objects;
 
 use files::load;
+use lent::LONGEST;
 use list::{Entry, first_entry};
 use std::io;
 
@@ -80,7 +81,7 @@ fn report(rt: &impl Print, entries: &str, accepted: &str, counts: Counts) -> io:
 
 fn main(rt: HostRuntime) -> io::Result<()> {
     let mut list = [0u8; 327680];
-    let mut buffer = [0u8; 65536];
+    let mut buffer = [0u8; LONGEST];
     let size = load(&rt, "jobs.bin", &mut list)?;
     report(
         &rt,
